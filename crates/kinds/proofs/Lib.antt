@@ -1,2 +1,4 @@
-pub mod Table
+pub mod Bytes
+pub mod Each
 pub mod Remainders
+pub mod Table

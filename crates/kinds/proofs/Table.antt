@@ -8,20 +8,9 @@ use Prim.Native.Nat.{ℕ, zero, suc, _<_, _≤_}
 use native.Mathlib.Omega.{arith}
 use lib.Dec.{leb, ltb, eqb}
 use Rattle.std.proofs.shelf.Tests.{and-parts, and-left, and-right, cases-eq, cases-lt, cond-true, cond-false, cond-both, eq-eqb, ne-eqb, eqb-true, ltb-true, leb-true, lt-leb}
+use Rattle.kinds.proofs.Each.{each, each-at}
 use Rattle.kinds.specs.Kind.{Ops, difference, last-point}
 use Rattle.kinds.specs.Tables.{entry, point-code}
-
--- the test passes at each number up to n
-abbrev upto : ℕ → (ℕ → Bool) → Bool
-upto zero f = f zero
-upto (suc n) f = f (suc n) && upto n f
-
-upto-at : (n : ℕ) (f : ℕ → Bool) → upto n f ≡ true → (i : ℕ) → i ≤ n → f i ≡ true
-upto-at zero f t i h = subst (λ (k : ℕ). f k ≡ true) (omega arith) t
-upto-at (suc n) f t i h =
-    let parts = and-parts (f (suc n)) (upto n f) t in
-    ⊎-elim (λ (e : i ≡ suc n). subst (λ (k : ℕ). f k ≡ true) (sym e) (parts .0)) (λ (ne : i ≡ suc n → ⊥). upto-at n f (parts .1) i (omega arith))
-    (cases-eq i (suc n))
 
 -- the entry at i, j is below the size, and the reciprocal of the gap, or 0 where there is no gap
 abbrev cell : Ops → ℕ → ℕ → Bool
@@ -31,11 +20,11 @@ cell o i j =
 
 -- the one test over all gaps
 abbrev pub all-gaps : Ops → Bool
-all-gaps o = upto last-point (λ i. upto last-point (cell o i))
+all-gaps o = each (suc last-point) (λ i. each (suc last-point) (cell o i))
 
 module _ (o : Ops) (t : all-gaps o ≡ true) where
   cell-at : (i j : ℕ) → i ≤ last-point → j ≤ last-point → cell o i j ≡ true
-  cell-at i j hi hj = upto-at last-point (cell o i) (upto-at last-point (λ k. upto last-point (cell o k)) t i hi) j hj
+  cell-at i j hi hj = each-at (suc last-point) (cell o i) (each-at (suc last-point) (λ k. each (suc last-point) (cell o k)) t i (omega arith)) j (omega arith)
 
   pub gap-law : (i j : ℕ) → i ≤ last-point → j ≤ last-point → i ≢ j → o .product (difference o (o .point i) (o .point j)) (o .reciprocal i j) ≡ o .unit
   gap-law i j hi hj ne =

@@ -1,3 +1,4 @@
+pub mod Bytes
 pub mod Kind
 pub mod Remainders
 pub mod Tables

@@ -2,10 +2,14 @@
 ghost use mathlib.Core.Path.{_≡_};
 ghost use Rattle.kinds.specs.Kind.{Ops, Lawful};
 
+mod byte;
 mod modular;
+mod points;
 mod small;
 mod wide;
 
+pub use byte::Byte;
+pub use byte::ByteKind;
 pub use small::Small;
 pub use small::SmallKind;
 pub use wide::Wide;

@@ -4,11 +4,12 @@ ghost use Rattle.kinds.specs.Tables.{small-table};
 use super::Code;
 use super::Kind;
 use super::modular;
+use super::points;
+use super::points::Reciprocals;
 
 const SIZE: Code = 31;
 
-// Row i, column j: the reciprocal of point i - point j.
-const RECIPROCALS: [[Code; 10]; 10] = [
+const RECIPROCALS: Reciprocals = [
     [0, 30, 15, 10, 23, 6, 5, 22, 27, 24],
     [1, 0, 30, 15, 10, 23, 6, 5, 22, 27],
     [16, 1, 0, 30, 15, 10, 23, 6, 5, 22],
@@ -48,10 +49,10 @@ pub impl Kind for Small as SmallKind {
     }
 
     fn point(i: u32) -> Code {
-        modular::point(i)
+        points::point(i)
     }
 
     fn reciprocal(i: u32, j: u32) -> Code {
-        modular::at(&RECIPROCALS, i, j)
+        points::at(&RECIPROCALS, i, j)
     }
 }

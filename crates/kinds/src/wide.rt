@@ -4,11 +4,12 @@ ghost use Rattle.kinds.specs.Tables.{wide-table};
 use super::Code;
 use super::Kind;
 use super::modular;
+use super::points;
+use super::points::Reciprocals;
 
 const SIZE: Code = 2147483647;
 
-// Row i, column j: the reciprocal of point i - point j.
-const RECIPROCALS: [[Code; 10]; 10] = [
+const RECIPROCALS: Reciprocals = [
     [
         0,
         2147483646,
@@ -158,10 +159,10 @@ pub impl Kind for Wide as WideKind {
     }
 
     fn point(i: u32) -> Code {
-        modular::point(i)
+        points::point(i)
     }
 
     fn reciprocal(i: u32, j: u32) -> Code {
-        modular::at(&RECIPROCALS, i, j)
+        points::at(&RECIPROCALS, i, j)
     }
 }

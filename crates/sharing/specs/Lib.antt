@@ -1,0 +1,5 @@
+pub mod Causes
+pub mod Masks
+pub mod Promises
+pub mod Rebuilding
+pub mod Shares
