@@ -3,5 +3,9 @@ pub mod RingLaws
 pub mod Polynomials
 pub mod Lagrange
 pub mod Newton
-pub mod Mask
+pub mod Masking
 pub mod Weighing
+pub mod Scans
+pub mod Dividing
+pub mod InPlace
+pub mod Growing

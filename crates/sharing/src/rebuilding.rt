@@ -1,9 +1,13 @@
 // Rebuilding a figure from shares: the constant of the one polynomial of degree below k that fits them,
 // by Newton's divided differences.
 ghost use mathlib.Core.Path.{_≡_};
+ghost use mathlib.Core.Bool.{not, _&&_};
+ghost use Prim.Native.Nat.{_≤_};
 ghost use lib.ListN.{length};
-ghost use Rattle.sharing.specs.Rebuilding.{holds, apart, all-below, divided, fitted, rebuilt};
+ghost use Rattle.sharing.specs.Rebuilding.{holds, is-seat, apart, all-below, divided, fitted, rebuilt};
+use super::LEAST_THRESHOLD;
 use super::MOST_SEATS;
+use super::MOST_THRESHOLD;
 use super::Refusal;
 use kinds::Code;
 use kinds::Kind;
@@ -19,13 +23,19 @@ fn is_among(seat: u32, seats: &[u32]) -> bool
     false
 }
 
+// Whether it is a seat that no later one repeats.
+fn is_apart(seat: u32, later: &[u32]) -> bool
+    ensures { λ r. ⌜ r ≡ (is-seat seat && not (holds seat (now (later .entry)))) ⌝ }
+{
+    seat != 0 && seat <= MOST_SEATS as u32 && !is_among(seat, later)
+}
+
 // Whether each is a seat, and none is named twice.
 fn are_apart(seats: &[u32]) -> bool
     ensures { λ r. ⌜ r ≡ apart (now (seats .entry)) ⌝ }
 {
     for i in 0..seats.len() {
-        let seat = seats[i];
-        if seat == 0 || seat > MOST_SEATS as u32 || is_among(seat, &seats[i + 1..]) {
+        if !is_apart(seats[i], &seats[i + 1..]) {
             return false;
         }
     }
@@ -58,19 +68,40 @@ fn divide<K: Kind>(seat: u32, value: Code, seats: &[u32], values: &mut [Code])
 
 // The constant of the polynomial of k coefficients that has these values at these seats, if there is one.
 fn constant<K: Kind>(k: u32, seats: &[u32], values: &mut [Code]) -> Option<Code>
-    requires { ⌜ length (now seats) ≡ length (now values) ⌝ }
+    requires { ⌜ length (now seats) ≡ length (now values) ⌝ ∗ ⌜ k ≤ length (now seats) ⌝ }
     ensures { λ r. ⌜ r ≡ fitted (K·Kind .ops) k (now (seats .entry)) (now (values .entry)) ⌝ }
 {
     if k == 0 {
         return if are_below(1, values) { Some(0) } else { None };
     }
-    let [seat, seats @ ..] = seats else {
-        return None;
-    };
-    let [value, values @ ..] = values else {
-        return None;
-    };
-    divide::<K>(*seat, *value, seats, values);
+    let seat = seats[0];
+    let value = values[0];
+    let seats = &seats[1..];
+    let values = &mut values[1..];
+    divide::<K>(seat, value, seats, values);
     let rest = constant::<K>(k - 1, seats, values)?;
-    Some(K::sum(*value, K::negative(K::product(K::point(*seat), rest))))
+    Some(K::sum(value, K::negative(K::product(K::point(seat), rest))))
+}
+
+// The constant of the one polynomial of degree below k that fits every pair of a seat and a share.
+pub fn rebuild<K: Kind>(k: u32, seats: &[u32], shares: &[Code]) -> Result<Code, Refusal>
+    ensures { λ r. ⌜ r ≡ rebuilt (K·Kind .ops) k (now (seats .entry)) (now (shares .entry)) ⌝ }
+{
+    if k < LEAST_THRESHOLD || k > MOST_THRESHOLD {
+        return Err(Refusal::Limits);
+    }
+    let count = shares.len();
+    if seats.len() != count || count < k as usize || count > MOST_SEATS {
+        return Err(Refusal::Lengths);
+    }
+    if !are_apart(seats) {
+        return Err(Refusal::Seats);
+    }
+    if !are_below(K::size(), shares) {
+        return Err(Refusal::NotBelow);
+    }
+    let mut values = [0; MOST_SEATS];
+    let values = &mut values[0..count];
+    values.copy_from_slice(shares);
+    constant::<K>(k, seats, values).ok_or(Refusal::NoFit)
 }

@@ -1,7 +1,7 @@
 use mathlib.Core.Path.{_≡_}
 use lib.ListN.{drop}
 use Rattle.sharing.specs.Shares.{weighed}
-use Rattle.sharing.proofs.recombine.Given as given
+use Rattle.sharing.proofs.shares.recombine.Given as given
 
 -- the total of what stands from i on
 abbrev pub Inv-loop-i : given.InvT-loop-i

@@ -4,7 +4,7 @@ use lib.ListN.{drop}
 use Prim.Native.Nat.{ℕ}
 use Rattle.sharing.specs.Shares.{weighed}
 use Rattle.sharing.proofs.Weighing.{weighed-end, weighed-step}
-use Rattle.sharing.proofs.recombine.Needs as need
+use Rattle.sharing.proofs.shares.recombine.Needs as need
 
 pub loop-i-holds : need.loop-i-holds
 loop-i-holds g c = weighed-end (g .K·Kind .ops) (c .args .weights .now) (c .args .codes .now) (c .min-i .result) (c .min-i .ensures)

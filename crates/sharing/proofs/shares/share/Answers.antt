@@ -3,7 +3,7 @@ use mathlib.Core.List.{List, _∷_, _++_, [], append-assoc}
 use Rattle.std.proofs.shelf.Lists.{nil-from-length}
 use Rattle.std.specs.Parts.{iter-rest, rev-source}
 use Rattle.sharing.specs.Shares.{share-at}
-use Rattle.sharing.proofs.share.Needs as need
+use Rattle.sharing.proofs.shares.share.Needs as need
 
 pub loop-c-again : need.loop-c-again
 loop-c-again g c =
