@@ -4,8 +4,14 @@ pub mod Polynomials
 pub mod Lagrange
 pub mod Newton
 pub mod Masking
-pub mod Weighing
-pub mod Scans
+pub mod Codes
+pub mod Crossing
+pub mod Seats
+pub mod Fitting
+pub mod Admitted
+pub mod Promises
 pub mod Dividing
-pub mod InPlace
 pub mod Growing
+pub mod InPlace
+pub mod Scans
+pub mod Weighing

@@ -2,6 +2,7 @@
 ghost use mathlib.Core.Path.{_≡_};
 ghost use lib.ListN.{length};
 ghost use Rattle.sharing.specs.Masks.{grown, mask-of};
+ghost use Rattle.sharing.specs.Promises.{Masks, Hides};
 use kinds::Code;
 use kinds::Kind;
 
@@ -22,7 +23,9 @@ fn grow<K: Kind>(r: Code, strip: &mut [Code])
 // 1 - x / p_s over the group's seats s, cut to the strip's length. It is 0 at each of those seats, so
 // that a multiple of it added to a polynomial changes no share of theirs.
 pub fn mask<K: Kind>(group: &[u32], strip: &mut [Code])
-    ensures { λ _. ⌜ now (strip .exit) ≡ mask-of (K·Kind .ops) (now (group .entry)) (length (now (strip .entry))) ⌝ }
+    ensures written { λ _. ⌜ now (strip .exit) ≡ mask-of (K·Kind .ops) (now (group .entry)) (length (now (strip .entry))) ⌝ }
+    ensures masks { λ _. ⌜ Masks (K·Kind .ops) ⌝ }
+    ensures hides { λ _. ⌜ Hides (K·Kind .ops) ⌝ }
 {
     strip.fill(0);
     for seat in group {

@@ -4,6 +4,7 @@ ghost use mathlib.Core.Path.{_≡_};
 ghost use mathlib.Core.Bool.{not, _&&_};
 ghost use Prim.Native.Nat.{_≤_};
 ghost use lib.ListN.{length};
+ghost use Rattle.sharing.specs.Promises.{Rebuilds, Answers-the-one, Refuses-when-none};
 ghost use Rattle.sharing.specs.Rebuilding.{holds, is-seat, apart, all-below, divided, fitted, rebuilt};
 use super::LEAST_THRESHOLD;
 use super::MOST_SEATS;
@@ -83,8 +84,8 @@ fn constant<K: Kind>(k: u32, seats: &[u32], values: &mut [Code]) -> Option<Code>
     Some(K::sum(value, K::negative(K::product(K::point(seat), rest))))
 }
 
-// The constant of the one polynomial of degree below k that fits every pair of a seat and a share.
-pub fn rebuild<K: Kind>(k: u32, seats: &[u32], shares: &[Code]) -> Result<Code, Refusal>
+// The answer of rebuild: the first cause that holds, or the constant.
+fn attempt<K: Kind>(k: u32, seats: &[u32], shares: &[Code]) -> Result<Code, Refusal>
     ensures { λ r. ⌜ r ≡ rebuilt (K·Kind .ops) k (now (seats .entry)) (now (shares .entry)) ⌝ }
 {
     if k < LEAST_THRESHOLD || k > MOST_THRESHOLD {
@@ -104,4 +105,15 @@ pub fn rebuild<K: Kind>(k: u32, seats: &[u32], shares: &[Code]) -> Result<Code, 
     let values = &mut values[0..count];
     values.copy_from_slice(shares);
     constant::<K>(k, seats, values).ok_or(Refusal::NoFit)
+}
+
+// The constant of the one polynomial of degree below k that fits every pair of a seat and a share. So k or
+// more true shares of a figure rebuild it, and shares that no such polynomial fits are refused.
+pub fn rebuild<K: Kind>(k: u32, seats: &[u32], shares: &[Code]) -> Result<Code, Refusal>
+    ensures answer { λ r. ⌜ r ≡ rebuilt (K·Kind .ops) k (now (seats .entry)) (now (shares .entry)) ⌝ }
+    ensures rebuilds { λ _. ⌜ Rebuilds (K·Kind .ops) ⌝ }
+    ensures answers_the_one { λ _. ⌜ Answers-the-one (K·Kind .ops) ⌝ }
+    ensures refuses_when_none { λ _. ⌜ Refuses-when-none (K·Kind .ops) ⌝ }
+{
+    attempt::<K>(k, seats, shares)
 }

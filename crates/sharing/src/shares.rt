@@ -6,6 +6,7 @@ ghost use lib.Dec.{ltb};
 ghost use lib.ListN.{length};
 ghost use Rattle.std.specs.declared.result.Result.the-variants.{Ok};
 ghost use Rattle.sharing.specs.Causes.{refuse-if};
+ghost use Rattle.sharing.specs.Promises.{Recombines, Multiplies};
 ghost use Rattle.sharing.specs.Shares.{share-at, seats-to, weight-part, weight-among, weights-of, weighed, most-seats};
 use super::MOST_SEATS;
 use super::Refusal;
@@ -26,9 +27,13 @@ pub fn share<K: Kind>(figure: Code, strip: &[Code], seat: u32) -> Code
     K::sum(figure, K::product(x, tail))
 }
 
-// w_1 × c_1 + w_2 × c_2 + .., as far as both lists go.
+// w_1 × c_1 + w_2 × c_2 + .., as far as both lists go. With the weights of n seats this gives the constant
+// of each polynomial of at most n coefficients from its values at the seats, and the product of two
+// constants from the products of the values.
 pub fn recombine<K: Kind>(weights: &[Code], codes: &[Code]) -> Code
-    ensures { λ r. ⌜ r ≡ weighed (K·Kind .ops) (now (weights .entry)) (now (codes .entry)) ⌝ }
+    ensures answer { λ r. ⌜ r ≡ weighed (K·Kind .ops) (now (weights .entry)) (now (codes .entry)) ⌝ }
+    ensures recombines { λ _. ⌜ Recombines (K·Kind .ops) ⌝ }
+    ensures multiplies { λ _. ⌜ Multiplies (K·Kind .ops) ⌝ }
 {
     let mut total = 0;
     for i in (0..weights.len().min(codes.len())).rev() {

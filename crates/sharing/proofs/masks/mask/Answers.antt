@@ -3,6 +3,7 @@ use Prim.Native.Nat.{ℕ, _+_}
 use lib.ListN.{drop}
 use Rattle.std.proofs.shelf.Lists.{at-drop-more, at-drop-all}
 use Rattle.sharing.specs.Masks.{masked, grown}
+use Rattle.sharing.proofs.Promises.{masks, hides}
 use Rattle.sharing.proofs.masks.mask.Needs as need
 
 pub loop-seat-again : need.loop-seat-again
@@ -17,5 +18,10 @@ loop-seat-again g c =
 pub returns : need.returns
 returns g c =
     let o = g .K·Kind .ops in
-    sym (at-drop-all (λ seats. masked o seats (c .loop-seat .strip)) (c .args .group .now) (c .loop-seat .seat-index) (c .loop-seat-test .left)) ∙ c .loop-seat .inv
-    ∙ ap (masked o (c .args .group .now)) (c .fill .ensures .after (λ y e. e))
+    record {
+      written =
+          sym (at-drop-all (λ seats. masked o seats (c .loop-seat .strip)) (c .args .group .now) (c .loop-seat .seat-index) (c .loop-seat-test .left)) ∙ c .loop-seat .inv
+          ∙ ap (masked o (c .args .group .now)) (c .fill .ensures .after (λ y e. e));
+      masks = masks o (g .K·Kind·met .lawful);
+      hides = hides o (g .K·Kind·met .lawful);
+    }

@@ -3,6 +3,7 @@ use native.Mathlib.Omega.{arith}
 use lib.ListN.{drop}
 use Prim.Native.Nat.{ℕ}
 use Rattle.sharing.specs.Shares.{weighed}
+use Rattle.sharing.proofs.Promises.{recombines, multiplies}
 use Rattle.sharing.proofs.Weighing.{weighed-end, weighed-step}
 use Rattle.sharing.proofs.shares.recombine.Needs as need
 
@@ -17,4 +18,8 @@ loop-i-again g c =
 pub returns : need.returns
 returns g c =
     let start : c .loop-i .i ≡ 0 = omega arith in
-    c .loop-i .inv ∙ ap (λ (i : ℕ). weighed (g .K·Kind .ops) (drop i (c .args .weights .now)) (drop i (c .args .codes .now))) start
+    record {
+      answer = c .loop-i .inv ∙ ap (λ (i : ℕ). weighed (g .K·Kind .ops) (drop i (c .args .weights .now)) (drop i (c .args .codes .now))) start;
+      recombines = recombines (g .K·Kind .ops) (g .K·Kind·met .lawful);
+      multiplies = multiplies (g .K·Kind .ops) (g .K·Kind·met .lawful);
+    }
