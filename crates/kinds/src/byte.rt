@@ -10,6 +10,8 @@ use super::points::Reciprocals;
 
 const SIZE: Code = 256;
 
+const UNIT: Code = 1;
+
 // x^8 + x^4 + x^3 + x + 1.
 const MODULUS: u32 = 0x11b;
 
@@ -74,7 +76,7 @@ pub impl Kind for Byte as ByteKind {
     }
 
     fn unit() -> Code {
-        1
+        UNIT
     }
 
     fn point(i: u32) -> Code {

@@ -9,6 +9,8 @@ use super::points::Reciprocals;
 
 const SIZE: Code = 31;
 
+const UNIT: Code = 1;
+
 const RECIPROCALS: Reciprocals = [
     [0, 30, 15, 10, 23, 6, 5, 22, 27, 24],
     [1, 0, 30, 15, 10, 23, 6, 5, 22, 27],
@@ -45,7 +47,7 @@ pub impl Kind for Small as SmallKind {
     }
 
     fn unit() -> Code {
-        1
+        UNIT
     }
 
     fn point(i: u32) -> Code {

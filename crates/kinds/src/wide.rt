@@ -9,6 +9,8 @@ use super::points::Reciprocals;
 
 const SIZE: Code = 2147483647;
 
+const UNIT: Code = 1;
+
 const RECIPROCALS: Reciprocals = [
     [
         0,
@@ -155,7 +157,7 @@ pub impl Kind for Wide as WideKind {
     }
 
     fn unit() -> Code {
-        1
+        UNIT
     }
 
     fn point(i: u32) -> Code {

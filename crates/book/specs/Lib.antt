@@ -1,0 +1,5 @@
+pub mod Calls
+pub mod Secrets
+pub mod Slates
+pub mod States
+pub mod Values

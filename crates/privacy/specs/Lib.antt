@@ -1,0 +1,4 @@
+pub mod Pairing
+pub mod Privacy
+pub mod Runs
+pub mod Totals
