@@ -7,6 +7,8 @@ use lib.Dec.{eqb, leb, ltb}
 use lib.ListN.{length, getD, set, replicate, take}
 use Rattle.std.specs.declared.option.Option.{Option}
 use Rattle.std.specs.declared.option.Option.the-variants.{Some, None}
+use Rattle.std.specs.declared.result.Result.{Result}
+use Rattle.std.specs.declared.result.Result.the-variants.{Ok, Err}
 use Rattle.sharing.specs.Rebuilding.{all-below, least-threshold, most-threshold}
 use Rattle.sharing.specs.Shares.{most-seats}
 use Rattle.sharing.specs.declared.refusal.Refusal.{Refusal}
@@ -71,6 +73,11 @@ last-gather s seat = all-set (take (s .n) (set (s .gathered) (seat - 1) true))
 abbrev pub cause : Bool → Refusal → Option Refusal → Option Refusal
 cause true why rest = Some why
 cause false why rest = rest
+
+-- the answer of a call that says nothing but whether it was accepted
+abbrev pub allowed : Option Refusal → Result (Unit {0}) Refusal
+allowed (Some why) = Err why
+allowed None = Ok tt
 
 -- a destination and two lines to be read
 abbrev pub why-lines : Slate → ℕ → ℕ → ℕ → Option Refusal → Option Refusal

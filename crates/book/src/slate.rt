@@ -1,4 +1,7 @@
 // The slate: all that anyone may know of a book. Refusals are decided from it and the call alone.
+ghost use mathlib.Core.Path.{_≡_};
+ghost use lib.ListN.{getD, take};
+ghost use Rattle.book.specs.Slates.{state-of, is-empty, is-full, flag, holds-share, all-set, no-seat};
 use super::LINES;
 use sharing::MOST_SEATS;
 
@@ -32,4 +35,104 @@ pub struct Slate {
     // which seats have dealt and gathered in the product in hand, seat 1 first
     pub dealt: [bool; MOST_SEATS],
     pub gathered: [bool; MOST_SEATS],
+}
+
+// The state of line r; empty where there is no such line.
+fn state(lines: &[Line; LINES], r: u32) -> Line
+    ensures { λ x. ⌜ x ≡ getD (now (lines .entry)) r Line.Empty ⌝ }
+{
+    if (r as usize) < LINES {
+        lines[r as usize]
+    } else {
+        Line::Empty
+    }
+}
+
+// The flag of a seat; not set where there is no such seat.
+fn is_set(flags: &[bool; MOST_SEATS], seat: u32) -> bool
+    ensures { λ x. ⌜ x ≡ flag (now (flags .entry)) seat ⌝ }
+{
+    let place = seat.saturating_sub(1) as usize;
+    place < MOST_SEATS && flags[place]
+}
+
+// Whether each flag is set.
+fn are_set(flags: &[bool]) -> bool
+    ensures { λ x. ⌜ x ≡ all-set (now (flags .entry)) ⌝ }
+{
+    for set in flags {
+        if !*set {
+            return false;
+        }
+    }
+    true
+}
+
+// Whether each of the first n flags is set.
+pub fn first_set(flags: &[bool; MOST_SEATS], n: u32) -> bool
+    ensures { λ x. ⌜ x ≡ all-set (take n (now (flags .entry))) ⌝ }
+{
+    are_set(&flags[0..MOST_SEATS.min(n as usize)])
+}
+
+impl Slate {
+    pub fn has_dealt(&self, seat: u32) -> bool
+        ensures { λ x. ⌜ x ≡ flag (now (self .entry) .dealt) seat ⌝ }
+    {
+        is_set(&self.dealt, seat)
+    }
+
+    pub fn has_gathered(&self, seat: u32) -> bool
+        ensures { λ x. ⌜ x ≡ flag (now (self .entry) .gathered) seat ⌝ }
+    {
+        is_set(&self.gathered, seat)
+    }
+
+    // The seat holds a share of line r: it is full, or awaited and the seat has gathered.
+    pub fn holds_share(&self, seat: u32, r: u32) -> bool
+        ensures { λ x. ⌜ x ≡ holds-share (now (self .entry)) seat r ⌝ }
+    {
+        match self.state(r) {
+            Line::Empty => false,
+            Line::Awaited => self.has_gathered(seat),
+            Line::Full => true,
+        }
+    }
+
+    fn state(&self, r: u32) -> Line
+        ensures { λ x. ⌜ x ≡ state-of (now (self .entry)) r ⌝ }
+    {
+        state(&self.lines, r)
+    }
+
+    pub fn has_no_seat(&self, seat: u32) -> bool
+        ensures { λ x. ⌜ x ≡ no-seat (now (self .entry)) seat ⌝ }
+    {
+        seat == 0 || seat > self.n
+    }
+
+    pub fn is_empty(&self, r: u32) -> bool
+        ensures { λ x. ⌜ x ≡ is-empty (state-of (now (self .entry)) r) ⌝ }
+    {
+        match self.state(r) {
+            Line::Empty => true,
+            _ => false,
+        }
+    }
+
+    pub fn is_full(&self, r: u32) -> bool
+        ensures { λ x. ⌜ x ≡ is-full (state-of (now (self .entry)) r) ⌝ }
+    {
+        match self.state(r) {
+            Line::Full => true,
+            _ => false,
+        }
+    }
+
+    // Whether each of seats 1 to n has dealt.
+    pub fn all_dealt(&self) -> bool
+        ensures { λ x. ⌜ x ≡ all-set (take (now (self .entry) .n) (now (self .entry) .dealt)) ⌝ }
+    {
+        first_set(&self.dealt, self.n)
+    }
 }

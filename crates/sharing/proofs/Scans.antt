@@ -1,24 +1,22 @@
 -- The steps of loops that test a list element by element, where what is left decides. Assumes nothing.
-use mathlib.Core.Path.{_≡_, refl, sym, ap, _∙_}
+use mathlib.Core.Path.{_≡_, sym, ap, _∙_}
 use mathlib.Core.Bool.{Bool, true, false, not, _&&_, _||_}
 use mathlib.Core.List.{List, [], _∷_}
 use Prim.Native.Nat.{ℕ, _+_, _<_, _≤_}
-use lib.Dec.{eqb, leb, ltb}
 use lib.ListN.{length, getD, drop}
 use Rattle.std.proofs.shelf.Lists.{at-drop-more, at-drop-all}
-use Rattle.std.proofs.shelf.Tests.{lt-ltb, le-ltb, eq-eqb, ne-eqb, le-leb, lt-leb}
-use Rattle.sharing.specs.Shares.{most-seats}
+use Rattle.std.proofs.shelf.Tests.{lt-ltb, le-ltb, eq-eqb, ne-eqb}
 use Rattle.sharing.specs.Rebuilding.{all-below, holds, apart, is-seat}
 
--- F of what is left, once an element x has passed or failed the test that F makes of it
-module _ (F : List ℕ → Bool) (xs : List ℕ) (i : ℕ) (inside : i < length xs) (inv : F (drop i xs) ≡ F xs) where
-  pub passed : F (getD xs i 0 ∷ drop (i + 1) xs) ≡ F (drop (i + 1) xs) → F (drop (i + 1) xs) ≡ F xs
-  passed test = sym (at-drop-more F xs i 0 inside ∙ test) ∙ inv
+-- F of what is left, once an element has passed or failed the test that F makes of it; d is any default
+module _ {X : Type 0} (d : X) (F : List X → Bool) (xs : List X) (i : ℕ) (inside : i < length xs) (inv : F (drop i xs) ≡ F xs) where
+  pub passed : F (getD xs i d ∷ drop (i + 1) xs) ≡ F (drop (i + 1) xs) → F (drop (i + 1) xs) ≡ F xs
+  passed test = sym (at-drop-more F xs i d inside ∙ test) ∙ inv
 
-  pub failed : {b : Bool} → F (getD xs i 0 ∷ drop (i + 1) xs) ≡ b → b ≡ F xs
-  failed test = sym (at-drop-more F xs i 0 inside ∙ test) ∙ inv
+  pub failed : {b : Bool} → F (getD xs i d ∷ drop (i + 1) xs) ≡ b → b ≡ F xs
+  failed test = sym (at-drop-more F xs i d inside ∙ test) ∙ inv
 
-pub ended : (F : List ℕ → Bool) (xs : List ℕ) (i : ℕ) → length xs ≤ i → F (drop i xs) ≡ F xs → F [] ≡ F xs
+pub ended : {X : Type 0} (F : List X → Bool) (xs : List X) (i : ℕ) → length xs ≤ i → F (drop i xs) ≡ F xs → F [] ≡ F xs
 ended F xs i out inv = sym (at-drop-all F xs i out) ∙ inv
 
 pub below-passes : (size x : ℕ) (rest : List ℕ) → x < size → all-below size (x ∷ rest) ≡ all-below size rest

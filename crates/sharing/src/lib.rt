@@ -5,6 +5,7 @@ mod refusal;
 mod shares;
 
 pub use masks::mask;
+pub use rebuilding::are_below;
 pub use rebuilding::rebuild;
 pub use refusal::Refusal;
 pub use shares::recombine;

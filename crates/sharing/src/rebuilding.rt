@@ -44,7 +44,7 @@ fn are_apart(seats: &[u32]) -> bool
 }
 
 // Whether each code is below the size.
-fn are_below(size: Code, codes: &[Code]) -> bool
+pub fn are_below(size: Code, codes: &[Code]) -> bool
     ensures { λ r. ⌜ r ≡ all-below size (now (codes .entry)) ⌝ }
 {
     for code in codes {

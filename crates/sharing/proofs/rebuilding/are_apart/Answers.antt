@@ -10,13 +10,13 @@ use Rattle.sharing.proofs.rebuilding.are_apart.Needs as need
 pub returns-then-not-is-apart : need.returns-then-not-is-apart
 returns-then-not-is-apart c =
     let seats = c .args .seats .now in
-    failed apart seats (c .loop-i .i) (c .loop-i-test .taken) (c .loop-i .inv)
+    failed 0 apart seats (c .loop-i .i) (c .loop-i-test .taken) (c .loop-i .inv)
     (apart-step (getD seats (c .loop-i .i) 0) (drop (c .loop-i .i + 1) seats) (rw (take-rest seats (c .loop-i .i + 1)) at (c .if-not-is-apart .ensures tt)))
 
 pub loop-i-again : need.loop-i-again
 loop-i-again c =
     let seats = c .args .seats .now in
-    passed apart seats (c .loop-i .i) (c .loop-i-test .taken) (c .loop-i .inv)
+    passed 0 apart seats (c .loop-i .i) (c .loop-i-test .taken) (c .loop-i .inv)
     (apart-step (getD seats (c .loop-i .i) 0) (drop (c .loop-i .i + 1) seats) (rw (take-rest seats (c .loop-i .i + 1)) at (c .if-not-is-apart .ensures tt)))
 
 pub returns : need.returns

@@ -1,0 +1,4 @@
+pub mod Answering
+pub mod Filling
+pub mod Gathering
+pub mod Listing

@@ -1,0 +1,7 @@
+use mathlib.Core.Path.{sym}
+use native.Mathlib.Omega.{arith}
+use Rattle.std.proofs.shelf.Lists.{set-past}
+use Rattle.book.proofs.secrets.with_sender.Needs as need
+
+pub returns-then-place-ge-MOST-SEATS : need.returns-then-place-ge-MOST-SEATS
+returns-then-place-ge-MOST-SEATS c = sym (set-past (c .args .letters .now) _ _ (omega arith))
