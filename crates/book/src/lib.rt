@@ -10,11 +10,11 @@ mod secrets;
 mod slate;
 
 pub use book::Book;
-pub use pages::Pages;
-pub use secrets::Secrets;
-pub use slate::Hand;
-pub use slate::Line;
-pub use slate::Slate;
+use pages::Pages;
+use secrets::Secrets;
+use slate::Hand;
+use slate::Line;
+use slate::Slate;
 
 // How many lines a book has, numbered from 0.
 pub const LINES: usize = 32;

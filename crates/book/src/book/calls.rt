@@ -187,19 +187,17 @@ impl<K: Kind> Book<K> {
             return Err(Refusal::NoneInHand);
         };
         slate.may_deal(K::size(), seat, strip)?;
-        let secrets = &self.pages.secrets;
+        let a = self.pages.secrets.share_of(seat, hand.a);
+        let b = self.pages.secrets.share_of(seat, hand.b);
         let cell = Shared::<K> {
             kind: PhantomData,
-            value: K::product(
-                secrets.share_of(seat, hand.a),
-                secrets.share_of(seat, hand.b),
-            ),
+            value: K::product(a, b),
             strip,
         };
-        let row = rows::fill(slate.n, cell);
+        let letters = rows::fill(slate.n, cell);
         self.pages = Pages {
             slate: Some(slate.with_dealt(seat)),
-            secrets: self.pages.secrets.with_letters(seat, row),
+            secrets: self.pages.secrets.with_letters(seat, letters),
         };
         Ok(())
     }
