@@ -11,6 +11,8 @@ use sharing::MOST_SEATS;
 use sharing::Refusal;
 use std::io;
 
+mod tally;
+
 // A figure to be shared, and who takes part.
 #[derive(Clone, Copy)]
 struct Task<'a> {
@@ -199,5 +201,8 @@ fn main(rt: LibcRuntime) -> io::Result<()> {
         some_seats: &[2, 3],
         other_figure: 255,
     };
-    tell::<Byte>(&rt, key, &mut [0; 3])
+    tell::<Byte>(&rt, key, &mut [0; 3])?;
+    println!(rt, "")?;
+    println!(rt, "A tally of three houses with a seat each, of which any 2 can rebuild a total:")?;
+    tally::tell(&rt)
 }

@@ -1,5 +1,8 @@
 // The worked figures of docs/RULES.md, each as a test.
 #[cfg(test)]
+mod tally;
+
+#[cfg(test)]
 mod tests {
     use kinds::Byte;
     use kinds::ByteKind;
