@@ -13,7 +13,7 @@ use sharing::MOST_THRESHOLD;
 use sharing::Refusal;
 
 // set(n, k): k is 2 to 5, and n is 2k - 1 to 9.
-pub fn may_set(n: u32, k: u32) -> Result<(), Refusal>
+pub(crate) fn may_set(n: u32, k: u32) -> Result<(), Refusal>
     ensures { λ x. ⌜ x ≡ allowed (why-set n k) ⌝ }
 {
     if k < LEAST_THRESHOLD || k > MOST_THRESHOLD {
@@ -55,7 +55,7 @@ impl Slate {
         Ok(())
     }
 
-    pub fn may_enter(
+    pub(crate) fn may_enter(
         &self,
         size: Code,
         line: u32,
@@ -80,13 +80,19 @@ impl Slate {
         self.may_share(size, strip)
     }
 
-    pub fn may_sum(&self, size: Code, destination: u32, a: u32, b: u32) -> Result<(), Refusal>
+    pub(crate) fn may_sum(
+        &self,
+        size: Code,
+        destination: u32,
+        a: u32,
+        b: u32,
+    ) -> Result<(), Refusal>
         ensures { λ x. ⌜ x ≡ allowed (why size (now (self .entry)) (sum destination a b)) ⌝ }
     {
         self.may_combine(destination, a, b)
     }
 
-    pub fn may_scale(
+    pub(crate) fn may_scale(
         &self,
         size: Code,
         destination: u32,
@@ -102,7 +108,13 @@ impl Slate {
         Ok(())
     }
 
-    pub fn may_begin(&self, size: Code, destination: u32, a: u32, b: u32) -> Result<(), Refusal>
+    pub(crate) fn may_begin(
+        &self,
+        size: Code,
+        destination: u32,
+        a: u32,
+        b: u32,
+    ) -> Result<(), Refusal>
         ensures { λ x. ⌜ x ≡ allowed (why size (now (self .entry)) (begin destination a b)) ⌝ }
     {
         if let Some(_) = self.hand {
@@ -111,7 +123,7 @@ impl Slate {
         self.may_combine(destination, a, b)
     }
 
-    pub fn may_deal(&self, size: Code, seat: u32, strip: &[Code]) -> Result<(), Refusal>
+    pub(crate) fn may_deal(&self, size: Code, seat: u32, strip: &[Code]) -> Result<(), Refusal>
         ensures { λ x. ⌜ x ≡ allowed (why size (now (self .entry)) (deal seat (now (strip .entry)))) ⌝ }
     {
         let None = self.hand else {
@@ -126,7 +138,7 @@ impl Slate {
         Err(Refusal::NoneInHand)
     }
 
-    pub fn may_gather(&self, size: Code, seat: u32) -> Result<(), Refusal>
+    pub(crate) fn may_gather(&self, size: Code, seat: u32) -> Result<(), Refusal>
         ensures { λ x. ⌜ x ≡ allowed (why size (now (self .entry)) (gather seat)) ⌝ }
     {
         let Some(_) = self.hand else {
@@ -144,7 +156,7 @@ impl Slate {
         Ok(())
     }
 
-    pub fn may_open(&self, size: Code, line: u32, room: usize) -> Result<(), Refusal>
+    pub(crate) fn may_open(&self, size: Code, line: u32, room: usize) -> Result<(), Refusal>
         ensures { λ x. ⌜ x ≡ allowed (why size (now (self .entry)) («open» line room)) ⌝ }
     {
         if line as usize >= LINES {
@@ -159,7 +171,7 @@ impl Slate {
         Ok(())
     }
 
-    pub fn may_show(&self, size: Code, seat: u32, room: usize) -> Result<(), Refusal>
+    pub(crate) fn may_show(&self, size: Code, seat: u32, room: usize) -> Result<(), Refusal>
         ensures { λ x. ⌜ x ≡ allowed (why size (now (self .entry)) (show seat room)) ⌝ }
     {
         if self.has_no_seat(seat) {

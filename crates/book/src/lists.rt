@@ -10,14 +10,18 @@ ghost use Rattle.sharing.specs.Shares.{most-seats, seats-to, weights-of, weighe
 ghost use Rattle.book.specs.Secrets.{share-held, letter-held, gathered-share, opened, entry-if, shown};
 ghost use Rattle.book.specs.Slates.{line-count, show-count, flag, holds-share};
 use super::LINES;
+use super::SHOWN;
 use super::Secrets;
 use super::Slate;
 use kinds::Code;
 use kinds::Kind;
 use sharing::MOST_SEATS;
 
+// How many of show's entries are for lines; the others are for letters.
+const SHARES_SHOWN: usize = 2 * LINES;
+
 // The list takes the shares of seats 1 to n of line r, where n is its length.
-pub fn open_line(secrets: &Secrets, r: u32, list: &mut [Code])
+pub(crate) fn open_line(secrets: &Secrets, r: u32, list: &mut [Code])
     requires { ⌜ length (now list) ≤ most-seats ⌝ }
     ensures { λ _. ⌜ now (list .exit) ≡ opened (length (now (list .entry))) (now (secrets .entry)) r ⌝ }
 {
@@ -27,7 +31,7 @@ pub fn open_line(secrets: &Secrets, r: u32, list: &mut [Code])
 }
 
 // The list takes the letters to a seat from seats 1 to n, where n is its length.
-pub fn letters_to(secrets: &Secrets, seat: u32, list: &mut [Code])
+pub(crate) fn letters_to(secrets: &Secrets, seat: u32, list: &mut [Code])
     requires { ⌜ length (now list) ≤ most-seats ⌝ }
     ensures { λ _. ⌜ now (list .exit) ≡ map (letter-held (now (secrets .entry)) seat) (seats-to (length (now (list .entry)))) ⌝ }
 {
@@ -37,7 +41,7 @@ pub fn letters_to(secrets: &Secrets, seat: u32, list: &mut [Code])
 }
 
 // The codes of seats 1 to n, weighed.
-pub fn weigh_up<K: Kind>(codes: &[Code]) -> Code
+pub(crate) fn weigh_up<K: Kind>(codes: &[Code]) -> Code
     requires { ⌜ length (now codes) ≤ most-seats ⌝ }
     ensures { λ r. ⌜ r ≡ weighed (K·Kind .ops) (weights-of (K·Kind .ops) (length (now (codes .entry)))) (now (codes .entry)) ⌝ }
 {
@@ -48,7 +52,7 @@ pub fn weigh_up<K: Kind>(codes: &[Code]) -> Code
 }
 
 // A seat's share of the product in hand: the letters to it from seats 1 to n, weighed.
-pub fn gathered_share<K: Kind>(n: u32, secrets: &Secrets, seat: u32) -> Code
+pub(crate) fn gathered_share<K: Kind>(n: u32, secrets: &Secrets, seat: u32) -> Code
     requires { ⌜ n ≤ most-seats ⌝ }
     ensures { λ r. ⌜ r ≡ gathered-share (K·Kind .ops) n (now (secrets .entry)) seat ⌝ }
 {
@@ -69,7 +73,7 @@ fn put_pair(list: &mut [Code], i: usize, is_there: bool, code: Code)
 
 // Two entries for each line: 1 and the seat's share, or 0 and 0 where it holds none.
 fn show_lines(slate: &Slate, secrets: &Secrets, seat: u32, list: &mut [Code])
-    requires { ⌜ length (now list) ≡ 64 ⌝ }
+    requires { ⌜ length (now list) ≡ 2 * line-count ⌝ }
     ensures { λ _. ⌜ now (list .exit) ≡ joined (λ r. entry-if (holds-share (now (slate .entry)) seat r) (share-held (now (secrets .entry)) seat r)) (counting 0 line-count) ⌝ }
 {
     for r in 0..LINES {
@@ -80,7 +84,7 @@ fn show_lines(slate: &Slate, secrets: &Secrets, seat: u32, list: &mut [Code])
 
 // Two entries for each sender: 1 and its letter to the seat, or 0 and 0 where it has not dealt.
 fn show_letters(slate: &Slate, secrets: &Secrets, seat: u32, list: &mut [Code])
-    requires { ⌜ length (now list) ≡ 18 ⌝ }
+    requires { ⌜ length (now list) ≡ 2 * most-seats ⌝ }
     ensures { λ _. ⌜ now (list .exit) ≡ joined (λ s. entry-if (flag (now (slate .entry) .dealt) s) (letter-held (now (secrets .entry)) seat s)) (seats-to most-seats) ⌝ }
 {
     for i in 0..MOST_SEATS {
@@ -91,10 +95,10 @@ fn show_letters(slate: &Slate, secrets: &Secrets, seat: u32, list: &mut [Code])
 }
 
 // The list takes all that a seat holds.
-pub fn show_seat(slate: &Slate, secrets: &Secrets, seat: u32, list: &mut [Code])
+pub(crate) fn show_seat(slate: &Slate, secrets: &Secrets, seat: u32, list: &mut [Code])
     requires { ⌜ length (now list) ≡ show-count ⌝ }
     ensures { λ _. ⌜ now (list .exit) ≡ shown (now (slate .entry)) (now (secrets .entry)) seat ⌝ }
 {
-    show_lines(slate, secrets, seat, &mut list[0..64]);
-    show_letters(slate, secrets, seat, &mut list[64..82]);
+    show_lines(slate, secrets, seat, &mut list[0..SHARES_SHOWN]);
+    show_letters(slate, secrets, seat, &mut list[SHARES_SHOWN..SHOWN]);
 }

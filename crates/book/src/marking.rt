@@ -38,7 +38,7 @@ fn with_state(lines: &[Line; LINES], r: u32, state: Line) -> [Line; LINES]
 
 impl Slate {
     // As set leaves an unset book: all lines are empty, and no product is in hand.
-    pub fn fresh(n: u32, k: u32) -> Slate
+    pub(crate) fn fresh(n: u32, k: u32) -> Slate
         ensures { λ x. ⌜ x ≡ fresh n k ⌝ }
     {
         let lines = [Line::Empty; LINES];
@@ -55,7 +55,7 @@ impl Slate {
         }
     }
 
-    pub fn with_line(&self, r: u32, state: Line) -> Slate
+    pub(crate) fn with_line(&self, r: u32, state: Line) -> Slate
         ensures { λ x. ⌜ x ≡ with-line (now (self .entry)) r state ⌝ }
     {
         let lines = with_state(&self.lines, r, state);
@@ -72,7 +72,7 @@ impl Slate {
     }
 
     // With another product in hand, or none: nobody has dealt or gathered.
-    pub fn with_hand(&self, hand: Option<Hand>) -> Slate
+    pub(crate) fn with_hand(&self, hand: Option<Hand>) -> Slate
         ensures { λ x. ⌜ x ≡ with-hand (now (self .entry)) hand ⌝ }
     {
         let lines = self.lines;
@@ -88,7 +88,7 @@ impl Slate {
         }
     }
 
-    pub fn with_dealt(&self, seat: u32) -> Slate
+    pub(crate) fn with_dealt(&self, seat: u32) -> Slate
         ensures { λ x. ⌜ x ≡ with-dealt (now (self .entry)) seat ⌝ }
     {
         let lines = self.lines;
@@ -121,14 +121,14 @@ impl Slate {
     }
 
     // Whether the seat is the last to gather.
-    pub fn is_last(&self, seat: u32) -> bool
+    pub(crate) fn is_last(&self, seat: u32) -> bool
         ensures { λ x. ⌜ x ≡ last-gather (now (self .entry)) seat ⌝ }
     {
         first_set(&with_flag(&self.gathered, seat), self.n)
     }
 
     // After the last seat's gather the destination is full and the product is over.
-    pub fn gathered_by(&self, destination: u32, seat: u32) -> Slate
+    pub(crate) fn gathered_by(&self, destination: u32, seat: u32) -> Slate
         ensures { λ x. ⌜ x ≡ gathered-by (now (self .entry)) destination seat ⌝ }
     {
         if self.is_last(seat) {

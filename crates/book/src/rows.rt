@@ -9,7 +9,7 @@ use sharing::MOST_SEATS;
 pub type Row = [Code; MOST_SEATS];
 
 // The code of a seat; 0 where there is none.
-pub fn at(row: &Row, seat: u32) -> Code
+pub(crate) fn at(row: &Row, seat: u32) -> Code
     ensures { λ r. ⌜ r ≡ at-seat (now (row .entry)) seat ⌝ }
 {
     let place = seat.saturating_sub(1) as usize;
@@ -17,7 +17,7 @@ pub fn at(row: &Row, seat: u32) -> Code
 }
 
 // The row with another code for a seat.
-pub fn with(row: &Row, seat: u32, code: Code) -> Row
+pub(crate) fn with(row: &Row, seat: u32, code: Code) -> Row
     ensures { λ r. ⌜ r ≡ set (now (row .entry)) (seat - 1) code ⌝ }
 {
     let mut changed = *row;
@@ -38,7 +38,7 @@ pub trait Cell: Copy {
 }
 
 // The row that gives each of seats 1 to n its code.
-pub fn fill<C: Cell>(n: u32, cell: C) -> Row
+pub(crate) fn fill<C: Cell>(n: u32, cell: C) -> Row
     ensures { λ r. ⌜ r ≡ by-seat n (C·Cell .code cell) ⌝ }
 {
     let mut row = [0; MOST_SEATS];

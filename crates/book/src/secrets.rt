@@ -10,8 +10,8 @@ use super::rows::Row;
 use kinds::Code;
 use sharing::MOST_SEATS;
 
-// Shares by line and then by seat, and the letters of the product in hand by sender and then by
-// receiver. What no seat holds is 0, so that equal books are equal in memory.
+// Shares by line and then by seat, and the letters of the product in hand (the sub-shares of a resharing) by
+// sender and then by receiver. What no seat holds is 0, so that equal books are equal in memory.
 #[derive(Clone, Copy)]
 pub struct Secrets {
     pub shares: [Row; LINES],
@@ -77,20 +77,20 @@ fn with_seat(shares: &[Row; LINES], r: u32, seat: u32, code: Code) -> [Row; LINE
 }
 
 impl Secrets {
-    pub fn share_of(&self, seat: u32, r: u32) -> Code
+    pub(crate) fn share_of(&self, seat: u32, r: u32) -> Code
         ensures { λ c. ⌜ c ≡ share-held (now (self .entry)) seat r ⌝ }
     {
         share_in(&self.shares, seat, r)
     }
 
-    pub fn letter_to(&self, seat: u32, sender: u32) -> Code
+    pub(crate) fn letter_to(&self, seat: u32, sender: u32) -> Code
         ensures { λ c. ⌜ c ≡ letter-held (now (self .entry)) seat sender ⌝ }
     {
         letter_in(&self.letters, seat, sender)
     }
 
     // With each seat's share of line r.
-    pub fn with_shares(&self, r: u32, row: Row) -> Secrets
+    pub(crate) fn with_shares(&self, r: u32, row: Row) -> Secrets
         ensures { λ x. ⌜ x ≡ with-shares (now (self .entry)) r row ⌝ }
     {
         let shares = with_line(&self.shares, r, row);
@@ -99,7 +99,7 @@ impl Secrets {
     }
 
     // With one seat's share of line r.
-    pub fn with_share(&self, r: u32, seat: u32, code: Code) -> Secrets
+    pub(crate) fn with_share(&self, r: u32, seat: u32, code: Code) -> Secrets
         ensures { λ x. ⌜ x ≡ with-shares (now (self .entry)) r (set (getD (now (self .entry) .shares) r []) (seat - 1) code) ⌝ }
     {
         let shares = with_seat(&self.shares, r, seat, code);
@@ -108,7 +108,7 @@ impl Secrets {
     }
 
     // With a sender's letters.
-    pub fn with_letters(&self, sender: u32, row: Row) -> Secrets
+    pub(crate) fn with_letters(&self, sender: u32, row: Row) -> Secrets
         ensures { λ x. ⌜ x ≡ with-letters (now (self .entry)) sender row ⌝ }
     {
         let shares = self.shares;
@@ -116,7 +116,7 @@ impl Secrets {
         Secrets { shares, letters }
     }
 
-    pub fn without_letters(&self) -> Secrets
+    pub(crate) fn without_letters(&self) -> Secrets
         ensures { λ x. ⌜ x ≡ without-letters (now (self .entry)) ⌝ }
     {
         let shares = self.shares;

@@ -1,4 +1,4 @@
-// The slate: all that anyone may know of a book. Refusals are decided from it and the call alone.
+// The slate, the public state: all that anyone may know of a book. Refusals are decided from it and the call alone.
 ghost use mathlib.Core.Path.{_≡_};
 ghost use lib.ListN.{getD, take};
 ghost use Rattle.book.specs.Slates.{state-of, is-empty, is-full, flag, holds-share, all-set, no-seat};
@@ -16,7 +16,7 @@ pub enum Line {
     Full,
 }
 
-// The product in hand, by its lines.
+// The product in hand, by its lines: a multiplication by resharing that is under way.
 #[derive(Clone, Copy)]
 pub struct Hand {
     pub destination: u32,
@@ -69,27 +69,27 @@ fn are_set(flags: &[bool]) -> bool
 }
 
 // Whether each of the first n flags is set.
-pub fn first_set(flags: &[bool; MOST_SEATS], n: u32) -> bool
+pub(crate) fn first_set(flags: &[bool; MOST_SEATS], n: u32) -> bool
     ensures { λ x. ⌜ x ≡ all-set (take n (now (flags .entry))) ⌝ }
 {
     are_set(&flags[0..MOST_SEATS.min(n as usize)])
 }
 
 impl Slate {
-    pub fn has_dealt(&self, seat: u32) -> bool
+    pub(crate) fn has_dealt(&self, seat: u32) -> bool
         ensures { λ x. ⌜ x ≡ flag (now (self .entry) .dealt) seat ⌝ }
     {
         is_set(&self.dealt, seat)
     }
 
-    pub fn has_gathered(&self, seat: u32) -> bool
+    pub(crate) fn has_gathered(&self, seat: u32) -> bool
         ensures { λ x. ⌜ x ≡ flag (now (self .entry) .gathered) seat ⌝ }
     {
         is_set(&self.gathered, seat)
     }
 
     // The seat holds a share of line r: it is full, or awaited and the seat has gathered.
-    pub fn holds_share(&self, seat: u32, r: u32) -> bool
+    pub(crate) fn holds_share(&self, seat: u32, r: u32) -> bool
         ensures { λ x. ⌜ x ≡ holds-share (now (self .entry)) seat r ⌝ }
     {
         match self.state(r) {
@@ -105,13 +105,13 @@ impl Slate {
         state(&self.lines, r)
     }
 
-    pub fn has_no_seat(&self, seat: u32) -> bool
+    pub(crate) fn has_no_seat(&self, seat: u32) -> bool
         ensures { λ x. ⌜ x ≡ no-seat (now (self .entry)) seat ⌝ }
     {
         seat == 0 || seat > self.n
     }
 
-    pub fn is_empty(&self, r: u32) -> bool
+    pub(crate) fn is_empty(&self, r: u32) -> bool
         ensures { λ x. ⌜ x ≡ is-empty (state-of (now (self .entry)) r) ⌝ }
     {
         match self.state(r) {
@@ -120,7 +120,7 @@ impl Slate {
         }
     }
 
-    pub fn is_full(&self, r: u32) -> bool
+    pub(crate) fn is_full(&self, r: u32) -> bool
         ensures { λ x. ⌜ x ≡ is-full (state-of (now (self .entry)) r) ⌝ }
     {
         match self.state(r) {
@@ -130,7 +130,7 @@ impl Slate {
     }
 
     // Whether each of seats 1 to n has dealt.
-    pub fn all_dealt(&self) -> bool
+    pub(crate) fn all_dealt(&self) -> bool
         ensures { λ x. ⌜ x ≡ all-set (take (now (self .entry) .n) (now (self .entry) .dealt)) ⌝ }
     {
         first_set(&self.dealt, self.n)

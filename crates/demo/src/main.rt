@@ -203,6 +203,9 @@ fn main(rt: LibcRuntime) -> io::Result<()> {
     };
     tell::<Byte>(&rt, key, &mut [0; 3])?;
     println!(rt, "")?;
-    println!(rt, "A tally of three houses with a seat each, of which any 2 can rebuild a total:")?;
+    println!(
+        rt,
+        "A tally of three houses with a seat each, of which any 2 can rebuild a total:"
+    )?;
     tally::tell(&rt)
 }

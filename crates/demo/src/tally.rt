@@ -47,7 +47,10 @@ fn tell_refusal(rt: &LibcRuntime, refusal: Refusal) -> io::Result<()> {
 fn tell_total(rt: &LibcRuntime, book: &mut Book<Wide>, line: u32, what: &str) -> io::Result<()> {
     let mut shares = [0; 3];
     match book.open(line, &mut shares) {
-        Ok(total) => println!(rt, "  Line {line} is opened, {what}: the shares {shares:?} give {total}."),
+        Ok(total) => println!(
+            rt,
+            "  Line {line} is opened, {what}: the shares {shares:?} give {total}."
+        ),
         Err(refusal) => {
             let number = refusal.number();
             println!(rt, "  Line {line} is not opened, cause {number}.")
@@ -64,7 +67,10 @@ fn tell_seat(rt: &LibcRuntime, book: &mut Book<Wide>, seat: u32) -> io::Result<(
             let hours = entries[9];
             let rate = entries[13];
             let product = entries[15];
-            println!(rt, "  Seat {seat} holds {hours} of the hours, {rate} of the rate and {product} of the product.")
+            println!(
+                rt,
+                "  Seat {seat} holds {hours} of the hours, {rate} of the rate and {product} of the product."
+            )
         }
         Err(refusal) => tell_refusal(rt, refusal),
     }
@@ -110,8 +116,15 @@ fn tell_disguise(rt: &LibcRuntime, brought: Brought, seat: u32) -> io::Result<()
     let Ok(same) = holds_same(&mut one, &mut two, seat) else {
         return Ok(());
     };
-    let answer = if same { "the very same" } else { "something else" };
-    println!(rt, "  Had house 1 entered {a} and house 2 entered {b}, with strips to match, seat {seat} would hold {answer}.")
+    let answer = if same {
+        "the very same"
+    } else {
+        "something else"
+    };
+    println!(
+        rt,
+        "  Had house 1 entered {a} and house 2 entered {b}, with strips to match, seat {seat} would hold {answer}."
+    )
 }
 
 pub fn tell(rt: &LibcRuntime) -> io::Result<()> {
@@ -120,16 +133,25 @@ pub fn tell(rt: &LibcRuntime) -> io::Result<()> {
         strips: [777777777, 31, 2147483640],
     };
     let [a, b, c] = brought.figures;
-    println!(rt, "  The houses enter {a}, {b} and {c} hours; no seat sees a figure, only its own shares.")?;
+    println!(
+        rt,
+        "  The houses enter {a}, {b} and {c} hours; no seat sees a figure, only its own shares."
+    )?;
     let mut book = Book::new();
     if let Err(refusal) = enter_hours(&mut book, brought) {
         return tell_refusal(rt, refusal);
     }
-    println!(rt, "  The seats add up the hours and scale the sum by 14, each for itself.")?;
+    println!(
+        rt,
+        "  The seats add up the hours and scale the sum by 14, each for itself."
+    )?;
     if let Err(refusal) = multiply(&mut book) {
         return tell_refusal(rt, refusal);
     }
-    println!(rt, "  House 2 entered a secret rate. For the product each seat multiplies its shares, deals")?;
+    println!(
+        rt,
+        "  House 2 entered a secret rate. For the product each seat multiplies its shares, deals"
+    )?;
     println!(rt, "  letters to all, and gathers what it got.")?;
     tell_seat(rt, &mut book, 1)?;
     tell_seat(rt, &mut book, 2)?;

@@ -101,7 +101,16 @@ fn paired_run() -> Result<(), Fail> {
 
 #[test]
 fn limits() -> Result<(), Fail> {
-    for (n, k, cause) in [(5, 3, 0), (9, 5, 0), (3, 2, 0), (4, 3, 2), (10, 5, 2), (2, 2, 2), (3, 1, 2), (9, 6, 2)] {
+    for (n, k, cause) in [
+        (5, 3, 0),
+        (9, 5, 0),
+        (3, 2, 0),
+        (4, 3, 2),
+        (10, 5, 2),
+        (2, 2, 2),
+        (3, 1, 2),
+        (9, 6, 2),
+    ] {
         let mut book = Book::<Small>::new();
         check_eq(refused(book.set(n, k)), cause)?;
     }

@@ -11,14 +11,14 @@ pub const POINTS: usize = 10;
 pub type Reciprocals = [[Code; POINTS]; POINTS];
 
 // Point i is code i.
-pub fn point(i: u32) -> Code
+pub(super) fn point(i: u32) -> Code
     ensures { λ r. ⌜ r ≡ point-code i ⌝ }
 {
     if i <= LAST_POINT { i } else { 0 }
 }
 
 // The entry for i and j, and 0 where one of them has no point.
-pub fn at(table: &Reciprocals, i: u32, j: u32) -> Code
+pub(super) fn at(table: &Reciprocals, i: u32, j: u32) -> Code
     ensures { λ r. ⌜ r ≡ entry (now (table .entry)) i j ⌝ }
 {
     if i <= LAST_POINT && j <= LAST_POINT {

@@ -51,7 +51,7 @@ calls-in side [] strips = []
 calls-in side (i ∷ items) [] = []
 calls-in side (i ∷ items) (strip ∷ strips) = call-in side i strip ∷ calls-in side items strips
 
--- A choice: the outside strips of a run in the order of the calls, refused calls' too, each as long as its call has it,
+-- A choice, the randomness that the group does not know: the outside strips of a run in the order of the calls, refused calls' too, each as long as its call has it,
 -- of codes below the size. A call that is alike in both runs leaves no choice: its place holds the empty strip.
 abbrev pub Choice : Ops → List Item → List (List ℕ) → Type 0
 Choice o [] [] = Unit {0}

@@ -13,9 +13,10 @@ use super::Refusal;
 use kinds::Code;
 use kinds::Kind;
 
-// The share of a figure along a strip at a seat: the value at the seat's point of the polynomial whose
-// constant is the figure and whose other coefficients are the strip. A seat outside 1 to 9 has point 0,
-// where every polynomial has its constant: callers hand in seats only.
+// The share of a figure along a strip at a seat, by Shamir's sharing with the strip as its randomness: the
+// value at the seat's point of the polynomial whose constant is the figure and whose other coefficients are
+// the strip. A seat outside 1 to 9 has point 0, where every polynomial has its constant: callers hand in
+// seats only.
 pub fn share<K: Kind>(figure: Code, strip: &[Code], seat: u32) -> Code
     ensures { λ r. ⌜ r ≡ share-at (K·Kind .ops) figure (now (strip .entry)) seat ⌝ }
 {

@@ -1,6 +1,6 @@
 use mathlib.Core.Path.{_≡_, sym, ap, _∙_}
 use Prim.Native.Nat.{ℕ, _+_}
-use lib.ListN.{drop}
+use lib.ListN.{getD, drop}
 use Rattle.std.proofs.shelf.Lists.{at-drop-more, at-drop-all}
 use Rattle.sharing.specs.Masks.{masked, grown}
 use Rattle.sharing.proofs.Promises.{masks, hides}
@@ -10,9 +10,9 @@ pub loop-seat-again : need.loop-seat-again
 loop-seat-again g c =
     let o = g .K·Kind .ops in
     let group = c .args .group .now in
-    sym (at-drop-more (λ seats. masked o seats (c .loop-seat .strip)) group (c .loop-seat .seat-index) 0 (c .loop-seat-test .taken)
-    ∙ ap (masked o (drop (c .loop-seat .seat-index + 1) group))
-    (sym (c .grow .ensures ∙ ap (λ (r : ℕ). grown o r (o .unit) (c .loop-seat .strip)) (c .reciprocal .ensures))))
+    let i = c .loop-seat .seat-index in
+    let grown-is : c .grow .last .strip ≡ grown o (o .reciprocal (getD group i 0) 0) (o .unit) (c .loop-seat .strip) = c .grow .ensures ∙ ap (λ (r : ℕ). grown o r (o .unit) (c .loop-seat .strip)) (c .reciprocal .ensures) in
+    sym (at-drop-more (λ seats. masked o seats (c .loop-seat .strip)) group i 0 (c .loop-seat-test .taken) ∙ ap (masked o (drop (i + 1) group)) (sym grown-is))
     ∙ c .loop-seat .inv
 
 pub returns : need.returns

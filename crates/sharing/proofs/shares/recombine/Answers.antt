@@ -1,7 +1,7 @@
-use mathlib.Core.Path.{_≡_, ap, sym, _∙_}
+use mathlib.Core.Path.{_≡_, ap, _∙_}
 use native.Mathlib.Omega.{arith}
 use lib.ListN.{drop}
-use Prim.Native.Nat.{ℕ}
+use Prim.Native.Nat.{ℕ, _-_}
 use Rattle.sharing.specs.Shares.{weighed}
 use Rattle.sharing.proofs.Promises.{recombines, multiplies}
 use Rattle.sharing.proofs.Weighing.{weighed-end, weighed-step}
@@ -12,8 +12,13 @@ loop-i-holds g c = weighed-end (g .K·Kind .ops) (c .args .weights .now) (c .arg
 
 pub loop-i-again : need.loop-i-again
 loop-i-again g c =
-    c .sum-total .ensures ∙ ap (λ p. g .K·Kind .ops .sum p (c .loop-i .total)) (c .product .ensures)
-    ∙ weighed-step (g .K·Kind .ops) (c .args .weights .now) (c .args .codes .now) (c .loop-i .i) (c .loop-i .total) (omega arith) (omega arith) (omega arith) (c .loop-i .inv)
+    let o = g .K·Kind .ops in
+    let weights = c .args .weights .now in
+    let codes = c .args .codes .now in
+    let i = c .loop-i .i in
+    let step = weighed-step o weights codes i (c .loop-i .total) (omega arith) (omega arith) (omega arith) (c .loop-i .inv) in
+    let total : c .sum-total .result ≡ weighed o (drop (i - 1) weights) (drop (i - 1) codes) = cc in
+    total
 
 pub returns : need.returns
 returns g c =

@@ -1,4 +1,4 @@
-use mathlib.Core.Path.{sym, ap, subst, _∙_}
+use mathlib.Core.Path.{_≡_, sym, ap, _∙_}
 use mathlib.Core.Bool.{Bool, cond}
 use Prim.Native.Nat.{ℕ, _+_}
 use native.Mathlib.Omega.{arith}
@@ -15,13 +15,14 @@ use Rattle.sharing.proofs.shares.weigh.Needs as need
 pub loop-i-again : need.loop-i-again
 loop-i-again g c k h =
     let f : ℕ → ℕ = λ i. weight-among (g .K·Kind .ops) (seats-to (length (c .args .list .now))) (i + 1) in
-    ap (λ (w : ℕ). getD (set (c .loop-i .list) (c .loop-i .i) w) k 0) (c .weight .ensures)
+    let value : c .weight .result ≡ f (c .loop-i .i) = cc in
+    ap (λ (w : ℕ). getD (set (c .loop-i .list) (c .loop-i .i) w) k 0) value
     ∙ fill-by-more f (c .loop-i .list) (c .loop-i .i) 0 (omega arith) (c .loop-i .inv) k h
 
 pub returns : need.returns
 returns g c =
     let n = length (c .args .list .now) in
-    let few = le-ltb most-seats n (c .if-n-gt-MOST-SEATS .left) in
+    let few = le-ltb most-seats n (omega arith) in
     record {
       answer = ap (λ (t : Bool). refuse-if t Limits (Ok tt)) (sym few);
       written =
