@@ -1,0 +1,9 @@
+mod Along
+mod Forward
+mod Fronts
+mod Items
+mod Leftmost
+mod Listing
+mod Loose
+mod Proper
+mod Spells
