@@ -23,7 +23,7 @@ pub struct Cursor<'a> {
 
 impl<'a> Cursor<'a> {
     // Takes the first n bytes.
-    pub fn advance(&mut self, n: usize) -> Part<'a>
+    pub(crate) fn advance(&mut self, n: usize) -> Part<'a>
         requires { ⌜ n ≤ length (now (now self .rest)) ⌝ }
         ensures bytes { λ r. ⌜ now (r .bytes) ≡ take n (now (now (self .entry) .rest)) ⌝ }
         ensures place { λ r. ⌜ (r .line ≡ now (self .entry) .line) × (r .column ≡ now (self .entry) .column) ⌝ }
@@ -42,7 +42,7 @@ impl<'a> Cursor<'a> {
     }
 
     // The part from here up to a later place.
-    pub fn up_to(&self, end: &Cursor<'a>) -> Part<'a>
+    pub(crate) fn up_to(&self, end: &Cursor<'a>) -> Part<'a>
         requires { ⌜ length (now (now end .rest)) ≤ length (now (now self .rest)) ⌝ }
         ensures bytes { λ r. ⌜ now (r .bytes) ≡ take (length (now (now (self .entry) .rest)) - length (now (now (end .entry) .rest))) (now (now (self .entry) .rest)) ⌝ }
         ensures place { λ r. ⌜ (r .line ≡ now (self .entry) .line) × (r .column ≡ now (self .entry) .column) ⌝ }
@@ -55,7 +55,7 @@ impl<'a> Cursor<'a> {
         }
     }
 
-    pub fn fault(&self, cause: Cause) -> ReadFault
+    pub(crate) fn fault(&self, cause: Cause) -> ReadFault
         ensures place { λ r. ⌜ (r .line ≡ now (self .entry) .line) × (r .column ≡ now (self .entry) .column) ⌝ }
         ensures cause { λ r. ⌜ r .cause ≡ cause ⌝ }
     {
@@ -67,7 +67,7 @@ impl<'a> Cursor<'a> {
     }
 
     // Whether the byte is next, which is then taken.
-    pub fn skip(&mut self, byte: u8) -> bool
+    pub(crate) fn skip(&mut self, byte: u8) -> bool
         ensures next { λ r. ⌜ When r (now (now (self .entry) .rest) ≡ byte ∷ now (now (self .exit) .rest)) (begins (λ x. eqb x byte) (now (now (self .entry) .rest)) ≡ false) ⌝ }
         ensures moved { λ r. ⌜ When r (now (self .exit) .column ≡ now (self .entry) .column + 1) (now (self .exit) ≡ now (self .entry)) ⌝ }
         ensures line { λ r. ⌜ now (self .exit) .line ≡ now (self .entry) .line ⌝ }
@@ -82,7 +82,7 @@ impl<'a> Cursor<'a> {
     }
 
     // Takes the byte, which has to be next.
-    pub fn expect(&mut self, byte: u8) -> Result<(), ReadFault>
+    pub(crate) fn expect(&mut self, byte: u8) -> Result<(), ReadFault>
         ensures next { λ r. ⌜ Cases r (λ _. now (now (self .entry) .rest) ≡ byte ∷ now (now (self .exit) .rest)) (λ _. begins (λ x. eqb x byte) (now (now (self .entry) .rest)) ≡ false) ⌝ }
         ensures moved { λ r. ⌜ Cases r (λ _. now (self .exit) .column ≡ now (self .entry) .column + 1) (λ e. (e .line ≡ now (self .entry) .line) × (e .column ≡ now (self .entry) .column) × (e .cause ≡ Cause.Byte)) ⌝ }
         ensures line { λ r. ⌜ now (self .exit) .line ≡ now (self .entry) .line ⌝ }

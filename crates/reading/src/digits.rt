@@ -21,7 +21,7 @@ impl Class {
 }
 
 // How many bytes at the front are of the class.
-pub fn run_len(bytes: &[u8], class: Class) -> usize
+pub(crate) fn run_len(bytes: &[u8], class: Class) -> usize
     ensures { λ r. ⌜ r ≡ front (in-class class) (now (bytes .entry)) ⌝ }
 {
     let mut n = 0;

@@ -21,7 +21,7 @@ const MOST_NUMBERS: usize = 9;
 
 impl<'a> Cursor<'a> {
     // One to eight letters.
-    pub fn word(&mut self) -> Result<Part<'a>, ReadFault>
+    pub(crate) fn word(&mut self) -> Result<Part<'a>, ReadFault>
         ensures { λ r. ⌜ Word-read (now (self .entry)) (now (self .exit)) r ⌝ }
     {
         let n = run_len(self.rest, Class::Letter);
@@ -36,7 +36,7 @@ impl<'a> Cursor<'a> {
     }
 
     // A run of digits that is a number.
-    pub fn number(&mut self) -> Result<Part<'a>, ReadFault>
+    pub(crate) fn number(&mut self) -> Result<Part<'a>, ReadFault>
         ensures { λ r. ⌜ Number-read (now (self .entry)) (now (self .exit)) r ⌝ }
     {
         let n = run_len(self.rest, Class::Digit);
@@ -52,7 +52,7 @@ impl<'a> Cursor<'a> {
     }
 
     // A list from behind its "(" to its ")": at most nine numbers, with a space between them.
-    pub fn numbers(&mut self) -> Result<(), ReadFault>
+    pub(crate) fn numbers(&mut self) -> Result<(), ReadFault>
         ensures { λ r. ⌜ List-read (now (self .entry)) (now (self .exit)) r ⌝ }
     {
         if self.skip(b')') {
@@ -71,7 +71,7 @@ impl<'a> Cursor<'a> {
     }
 
     // An item, from behind its space.
-    pub fn item(&mut self) -> Result<Token<'a>, ReadFault>
+    pub(crate) fn item(&mut self) -> Result<Token<'a>, ReadFault>
         ensures { λ r. ⌜ Item-read (now (self .entry)) (now (self .exit)) r ⌝ }
     {
         let start = *self;
@@ -83,7 +83,7 @@ impl<'a> Cursor<'a> {
     }
 
     // The whole line, with the byte that ends it.
-    pub fn tokens(&mut self, heap: Global) -> Result<Vec<Token<'a>>, ReadError>
+    pub(crate) fn tokens(&mut self, heap: Global) -> Result<Vec<Token<'a>>, ReadError>
         ensures { λ r. ⌜ Cases r (λ v. Tokens-read (now (self .entry)) (now (self .exit)) (vec-items v)) (λ e. Line-faults (now (self .entry)) e) ⌝ }
     {
         self.expect(b'(')?;
