@@ -1,4 +1,6 @@
-// The book: one tally shared among n seats, and the calls that change it.
+//! The book: one tally shared among n seats, and the calls that change it.
+#![tactic(auto)]
+
 mod book;
 mod cells;
 mod deciding;

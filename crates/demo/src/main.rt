@@ -1,4 +1,6 @@
-// The demo: a house shares a figure among the seats, at each kind of number, and tells what came of it.
+//! The demo: a house shares a figure among the seats, at each kind of number, and tells what came of it.
+#![tactic(auto)]
+
 use kinds::{Byte, Code, Kind, Small, Wide};
 use sharing::{MOST_SEATS, Refusal};
 use std::io;

@@ -1,4 +1,6 @@
-// The worked figures of docs/RULES.md: all of them in one statement about the definitions, and each as a test of the code.
+//! The worked figures of docs/RULES.md: all of them in one statement about the definitions, and each as a test of the code.
+#![tactic(auto)]
+
 ghost use Rattle.figures.specs.Worked.{WorkedFigures};
 
 // The definitions that the contracts cite compute the worked figures.

@@ -1,4 +1,6 @@
-// The forms of a tally sheet: what a line's word and items ask for, or why they ask for nothing.
+//! The forms of a tally sheet: what a line's word and items ask for, or why they ask for nothing.
+#![tactic(auto)]
+
 mod fault;
 mod items;
 mod judging;

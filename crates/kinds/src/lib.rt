@@ -1,4 +1,6 @@
-// The kinds of number that figures are counted in.
+//! The kinds of number that figures are counted in.
+#![tactic(auto)]
+
 ghost use Rattle.std.specs.Prelude.{◌≡◌};
 ghost use Rattle.kinds.specs.Kind.{Ops, Lawful};
 

@@ -1,5 +1,7 @@
-// The promises over whole runs of calls. Each function here is made for its contract: the statement that
-// it carries is proved of the very definitions that the contracts of the book's calls cite.
+//! The promises over whole runs of calls. Each function here is made for its contract: the statement that
+//! it carries is proved of the very definitions that the contracts of the book's calls cite.
+#![tactic(auto)]
+
 ghost use Rattle.privacy.specs.Lives.{LivesAreRuns};
 ghost use Rattle.privacy.specs.Privacy.{GroupLearnsNothing, OnePairing};
 ghost use Rattle.privacy.specs.Totals.{TotalsAreValues, SharesRebuildValues};

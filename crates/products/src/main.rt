@@ -1,4 +1,6 @@
-// Every product of two bytes, compared with an independent program, tools/products.py.
+//! Every product of two bytes, compared with an independent program, tools/products.py.
+#![tactic(auto)]
+
 use kinds::{Byte, Code, Kind};
 use std::io;
 

@@ -1,5 +1,7 @@
-// The reader of a tally sheet: each line of the sheet is one form, `(word item item ..)`, and is read into tokens that borrow the
-// sheet's bytes, or answered by the leftmost fault.
+//! The reader of a tally sheet: each line of the sheet is one form, `(word item item ..)`, and is read into tokens that borrow the
+//! sheet's bytes, or answered by the leftmost fault.
+#![tactic(auto)]
+
 mod cursor;
 mod digits;
 mod parts;

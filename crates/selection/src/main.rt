@@ -1,4 +1,6 @@
-// Runs each sheet named by an argument, and writes its name and its text.
+//! Runs each sheet named by an argument, and writes its name and its text.
+#![tactic(auto)]
+
 use anyhow::anyhow;
 use std::{env, fs};
 use tally::write_up;

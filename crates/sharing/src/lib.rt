@@ -1,4 +1,6 @@
-// Shamir's sharing over any kind of number: shares, weights, recombination and rebuilding.
+//! Shamir's sharing over any kind of number: shares, weights, recombination and rebuilding.
+#![tactic(auto)]
+
 mod masks;
 mod rebuilding;
 mod refusal;

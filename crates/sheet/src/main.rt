@@ -1,4 +1,6 @@
-// Runs a tally sheet: standard input to standard output.
+//! Runs a tally sheet: standard input to standard output.
+#![tactic(auto)]
+
 use anyhow::anyhow;
 use reading::MOST_BYTES;
 use std::env;

@@ -1,4 +1,6 @@
-// A whole tally sheet: its lines are read, judged and run one by one, and what they write is one text.
+//! A whole tally sheet: its lines are read, judged and run one by one, and what they write is one text.
+#![tactic(auto)]
+
 mod answer;
 mod desk;
 mod fault;

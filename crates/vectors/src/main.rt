@@ -1,5 +1,7 @@
-// Comparisons by test: what the engine computes on tables of inputs, at every kind. The expected output is
-// made by an independent program, tools/vectors.py.
+//! Comparisons by test: what the engine computes on tables of inputs, at every kind. The expected output is
+//! made by an independent program, tools/vectors.py.
+#![tactic(auto)]
+
 use kinds::{Byte, Code, Kind, Small, Wide};
 use sharing::MOST_SEATS;
 use std::io;
