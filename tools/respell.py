@@ -26,8 +26,8 @@ def own(path, crates):
 
 def code_of(line, comment):
     """The line's code and its comment."""
-    at = line.find(comment)
-    return (line, "") if at < 0 else (line[:at], line[at:])
+    found = re.search(r"(^|\s)" + comment, line)
+    return (line[: found.start()], line[found.start() :]) if found else (line, "")
 
 
 def spelled(name):

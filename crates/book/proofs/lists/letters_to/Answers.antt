@@ -7,7 +7,7 @@ use Rattle.book.proofs.lists.letters_to.Goals as goal
 pub loop-i-preserved : goal.loop-i-preserved
 loop-i-preserved c k h =
     let f : ℕ → ℕ = λ i. letter_held c.args.secrets.now c.args.seat (i + 1) in
-    ap (λ (w : ℕ). get_or (set c.loop-i.list c.loop-i.i w) k 0) c.letter-to.ensures
+    ap (λ (w : ℕ). get_or (set c.loop-i.list c.loop-i.i w) k 0) c.letter_to.ensures
     ∙ fill_by_more f c.loop-i.list c.loop-i.i 0 (omega arith) c.loop-i.invariant k h
 
 pub returns : goal.returns

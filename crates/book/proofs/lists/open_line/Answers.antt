@@ -7,7 +7,7 @@ use Rattle.book.proofs.lists.open_line.Goals as goal
 pub loop-i-preserved : goal.loop-i-preserved
 loop-i-preserved c k h =
     let f : ℕ → ℕ = λ i. share_held c.args.secrets.now (i + 1) c.args.r in
-    ap (λ (w : ℕ). get_or (set c.loop-i.list c.loop-i.i w) k 0) c.share-of.ensures
+    ap (λ (w : ℕ). get_or (set c.loop-i.list c.loop-i.i w) k 0) c.share_of.ensures
     ∙ fill_by_more f c.loop-i.list c.loop-i.i 0 (omega arith) c.loop-i.invariant k h
 
 pub returns : goal.returns

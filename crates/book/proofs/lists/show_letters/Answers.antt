@@ -8,7 +8,7 @@ use Rattle.book.proofs.lists.show_letters.Goals as goal
 pub loop-i-preserved : goal.loop-i-preserved
 loop-i-preserved c =
     entries_more (flag c.args.slate.now.dealt) (letter_held c.args.secrets.now c.args.seat) 1 c.loop-i.i (c.loop-i.i + 1) _ _ _ _
-    (omega arith) (omega arith) c.has-dealt-dealt.ensures c.letter-to.ensures c.put-pair.ensures c.loop-i.invariant
+    (omega arith) (omega arith) c.has_dealt-dealt.ensures c.letter_to.ensures c.put_pair.ensures c.loop-i.invariant
 
 pub returns : goal.returns
 returns c =

@@ -7,7 +7,7 @@ use Rattle.book.proofs.lists.show_lines.Goals as goal
 pub loop-r-preserved : goal.loop-r-preserved
 loop-r-preserved c =
     entries_more (holds_share c.args.slate.now c.args.seat) (share_held c.args.secrets.now c.args.seat) 0 c.loop-r.r c.loop-r.r _ _ _ _
-    (omega arith) (omega arith) c.holds-share-held.ensures c.share-of.ensures c.put-pair.ensures c.loop-r.invariant
+    (omega arith) (omega arith) c.holds_share-held.ensures c.share_of.ensures c.put_pair.ensures c.loop-r.invariant
 
 pub returns : goal.returns
 returns c =

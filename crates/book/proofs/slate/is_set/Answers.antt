@@ -3,6 +3,6 @@ use Rattle.std.proofs.lemmas.List.{get_or_past}
 use Rattle.std.proofs.lemmas.Bool.{le-ltb}
 use Rattle.book.proofs.slate.is_set.Goals as goal
 
-pub returns-else-place-lt-MOST-SEATS : goal.returns-else-place-lt-MOST-SEATS
-returns-else-place-lt-MOST-SEATS c =
-    le-ltb c.saturating-sub-place.result 9 c.if-place-lt-MOST-SEATS.false ∙ sym (get_or_past c.args.flags.now _ false (omega arith))
+pub returns-else-place-lt-MOST_SEATS : goal.returns-else-place-lt-MOST_SEATS
+returns-else-place-lt-MOST_SEATS c =
+    le-ltb c.saturating_sub-place.result 9 c.if-place-lt-MOST_SEATS.false ∙ sym (get_or_past c.args.flags.now _ false (omega arith))

@@ -7,53 +7,53 @@ use Rattle.tally.proofs.Answered.{answer_says}
 use Rattle.tally.proofs.Taken.{not_read, not_judged, done_so, by_error, long_so, not_long}
 use Rattle.tally.proofs.line.take_line.Goals as goal
 
-pub returns-in-err-tokens : goal.returns-in-err-tokens
-returns-in-err-tokens c =
+pub returns-in_err-tokens : goal.returns-in_err-tokens
+returns-in_err-tokens c =
     let p = err_from_is_err_and c.from-residual.result c.from-residual.ensures.1 in
     let is = p.1 ∙ ap Err p.2 in
     let d = desk_of c.args.desk.now in
     let line = c.args.reader.now.line in
     let bytes = c.args.reader.now.rest.now in
-    let next = c.read-line.new.self.line in
-    let rest = c.read-line.new.self.rest.now in
+    let next = c.read_line.new.self.line in
+    let rest = c.read_line.new.self.rest.now in
     record {
-      taken = by_error d d line next bytes rest c.from-residual.result _ is (not_read d d line next bytes rest _ c.in-err-tokens.ensures.answer);
-      long = long_so line bytes _ _ c.in-err-tokens.ensures.answer is;
+      taken = by_error d d line next bytes rest c.from-residual.result _ is (not_read d d line next bytes rest _ c.in_err-tokens.ensures.answer);
+      long = long_so line bytes _ _ c.in_err-tokens.ensures.answer is;
     }
 
-pub returns-in-err-order : goal.returns-in-err-order
-returns-in-err-order c =
-    let p = err_from_is_err_and c.from-residual-in-err-order.result c.from-residual-in-err-order.ensures.1 in
+pub returns-in_err-order : goal.returns-in_err-order
+returns-in_err-order c =
+    let p = err_from_is_err_and c.from-residual-in_err-order.result c.from-residual-in_err-order.ensures.1 in
     let is = p.1 ∙ ap Err p.2 in
     let d = desk_of c.args.desk.now in
     let line = c.args.reader.now.line in
     let bytes = c.args.reader.now.rest.now in
-    let next = c.read-line.new.self.line in
-    let rest = c.read-line.new.self.rest.now in
-    let got = c.in-ok-tokens.ensures in
+    let next = c.read_line.new.self.line in
+    let rest = c.read_line.new.self.rest.now in
+    let got = c.in_ok-tokens.ensures in
     record {
       taken =
-          by_error d d line next bytes rest c.from-residual-in-err-order.result _ is
-          (not_judged got.spells c.judge.ensures.forms line next bytes rest _ (answer_says bytes line _ got.answer) got.moves d c.judge.result _ (c.judge.ensures.answer ∙ ap (λ ts. judged (map told ts)) c.as-slice.ensures.value) c.in-err-order.was);
+          by_error d d line next bytes rest c.from-residual-in_err-order.result _ is
+          (not_judged got.spells c.judge.ensures.forms line next bytes rest _ (answer_says bytes line _ got.answer) got.moves d c.judge.result _ (c.judge.ensures.answer ∙ ap (λ ts. judged (map told ts)) c.as_slice.ensures.value) c.in_err-order.was);
       long = not_long line bytes _ _ _ _ got.answer;
     }
 
-pub returns-in-err-follow : goal.returns-in-err-follow
-returns-in-err-follow c =
-    let p = err_from_is_err_and c.from-residual-in-err-follow.result c.from-residual-in-err-follow.ensures.1 in
+pub returns-in_err-follow : goal.returns-in_err-follow
+returns-in_err-follow c =
+    let p = err_from_is_err_and c.from-residual-in_err-follow.result c.from-residual-in_err-follow.ensures.1 in
     let is = p.1 ∙ ap Err p.2 in
     let d = desk_of c.args.desk.now in
     let after = desk_of c.follow.new.self in
     let line = c.args.reader.now.line in
     let bytes = c.args.reader.now.rest.now in
-    let next = c.read-line.new.self.line in
-    let rest = c.read-line.new.self.rest.now in
-    let got = c.in-ok-tokens.ensures in
+    let next = c.read_line.new.self.line in
+    let rest = c.read_line.new.self.rest.now in
+    let got = c.in_ok-tokens.ensures in
     record {
       taken =
-          by_error d after line next bytes rest c.from-residual-in-err-follow.result _ is
+          by_error d after line next bytes rest c.from-residual-in_err-follow.result _ is
           (done_so got.spells c.judge.ensures.forms line next bytes rest _ (answer_says bytes line _ got.answer) got.moves d after c.judge.result _ _
-          (c.judge.ensures.answer ∙ ap (λ ts. judged (map told ts)) c.as-slice.ensures.value) c.in-ok-order.was c.in-err-follow.ensures.answer c.follow.ensures.desk);
+          (c.judge.ensures.answer ∙ ap (λ ts. judged (map told ts)) c.as_slice.ensures.value) c.in_ok-order.was c.in_err-follow.ensures.answer c.follow.ensures.desk);
       long = not_long line bytes _ _ _ _ got.answer;
     }
 
@@ -63,12 +63,12 @@ returns c =
     let after = desk_of c.follow.new.self in
     let line = c.args.reader.now.line in
     let bytes = c.args.reader.now.rest.now in
-    let next = c.read-line.new.self.line in
-    let rest = c.read-line.new.self.rest.now in
-    let got = c.in-ok-tokens.ensures in
+    let next = c.read_line.new.self.line in
+    let rest = c.read_line.new.self.rest.now in
+    let got = c.in_ok-tokens.ensures in
     record {
       taken =
           done_so got.spells c.judge.ensures.forms line next bytes rest _ (answer_says bytes line _ got.answer) got.moves d after c.judge.result _ _
-          (c.judge.ensures.answer ∙ ap (λ ts. judged (map told ts)) c.as-slice.ensures.value) c.in-ok-order.was c.in-ok-follow.ensures.answer c.follow.ensures.desk;
+          (c.judge.ensures.answer ∙ ap (λ ts. judged (map told ts)) c.as_slice.ensures.value) c.in_ok-order.was c.in_ok-follow.ensures.answer c.follow.ensures.desk;
       long = not_long line bytes _ _ _ _ got.answer;
     }

@@ -5,7 +5,7 @@ use Rattle.tally.proofs.text.put_line.Goals as goal
 pub returns : goal.returns
 returns c =
     wrote_line field c.args.word.now c.args.leading.now c.args.others.now _ _ _ _ _ _
-    c.in-ok-push-str.ensures.bytes
-    c.in-ok-put-numbers.ensures
-    c.in-ok-put-numbers-2.ensures
-    c.in-ok-push-str-2.ensures.bytes
+    c.in_ok-push_str.ensures.bytes
+    c.in_ok-put_numbers.ensures
+    c.in_ok-put_numbers-2.ensures
+    c.in_ok-push_str-2.ensures.bytes

@@ -4,13 +4,13 @@ use Rattle.book.specs.Calls.{enter}
 use Rattle.book.proofs.Answering.{refused_done, refused_left}
 use Rattle.book.proofs.book.Book.enter.Goals as goal
 
-pub returns-in-err-may-enter : goal.returns-in-err-may-enter
-returns-in-err-may-enter g c =
+pub returns-in_err-may_enter : goal.returns-in_err-may_enter
+returns-in_err-may_enter g c =
     let p = err_from_is_err_and c.from-residual.result c.from-residual.ensures.1 in
     let call = enter c.args.line c.args.house c.args.figure c.args.strip.now in
     record {
       answer =
           p.1 ∙ ap Err p.2
-          ∙ refused_done g.K.Kind.ops c.args.self.now.pages call c.in-Some.slate c.in-Some.is c.size.result c.size.ensures _ c.in-err-may-enter.ensures;
-      book = refused_left g.K.Kind.ops c.args.self.now.pages call c.in-Some.slate c.in-Some.is c.size.result c.size.ensures _ c.in-err-may-enter.ensures;
+          ∙ refused_done g.K.Kind.ops c.args.self.now.pages call c.in-Some.slate c.in-Some.is c.size.result c.size.ensures _ c.in_err-may_enter.ensures;
+      book = refused_left g.K.Kind.ops c.args.self.now.pages call c.in-Some.slate c.in-Some.is c.size.result c.size.ensures _ c.in_err-may_enter.ensures;
     }

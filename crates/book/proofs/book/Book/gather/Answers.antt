@@ -15,7 +15,7 @@ returns g c =
     let h = c.in-Some-hand.hand in
     let seat = c.args.seat in
     let call = gather seat in
-    let yes = c.in-ok-may-gather.ensures in
+    let yes = c.in_ok-may_gather.ensures in
     record {
       answer = accepted_done o p call s c.in-Some.is c.size.result c.size.ensures yes;
       book =

@@ -4,13 +4,13 @@ use Rattle.book.specs.Calls.{scale}
 use Rattle.book.proofs.Answering.{refused_done, refused_left}
 use Rattle.book.proofs.book.Book.scale.Goals as goal
 
-pub returns-in-err-may-scale : goal.returns-in-err-may-scale
-returns-in-err-may-scale g c =
+pub returns-in_err-may_scale : goal.returns-in_err-may_scale
+returns-in_err-may_scale g c =
     let p = err_from_is_err_and c.from-residual.result c.from-residual.ensures.1 in
     let call = scale c.args.destination c.args.a c.args.constant in
     record {
       answer =
           p.1 ∙ ap Err p.2
-          ∙ refused_done g.K.Kind.ops c.args.self.now.pages call c.in-Some.slate c.in-Some.is c.size.result c.size.ensures _ c.in-err-may-scale.ensures;
-      book = refused_left g.K.Kind.ops c.args.self.now.pages call c.in-Some.slate c.in-Some.is c.size.result c.size.ensures _ c.in-err-may-scale.ensures;
+          ∙ refused_done g.K.Kind.ops c.args.self.now.pages call c.in-Some.slate c.in-Some.is c.size.result c.size.ensures _ c.in_err-may_scale.ensures;
+      book = refused_left g.K.Kind.ops c.args.self.now.pages call c.in-Some.slate c.in-Some.is c.size.result c.size.ensures _ c.in_err-may_scale.ensures;
     }

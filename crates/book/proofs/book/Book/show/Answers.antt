@@ -9,9 +9,9 @@ returns g c =
     let o = g.K.Kind.ops in
     let p = c.args.self.now.pages in
     let call = show c.args.seat (length c.args.list.now) in
-    let yes = c.in-ok-may-show.ensures in
+    let yes = c.in_ok-may_show.ensures in
     record {
       answer = accepted_done o p call c.in-Some.slate c.in-Some.is c.size.result c.size.ensures yes;
       book = accepted_same o p call c.in-Some.slate c.in-Some.is c.size.result c.size.ensures yes refl refl;
-      written = c.show-seat.ensures ∙ accepted_list o p call c.in-Some.slate c.in-Some.is c.size.result c.size.ensures yes (λ s. shown s p.secrets c.args.seat) c.args.list.now;
+      written = c.show_seat.ensures ∙ accepted_list o p call c.in-Some.slate c.in-Some.is c.size.result c.size.ensures yes (λ s. shown s p.secrets c.args.seat) c.args.list.now;
     }

@@ -12,33 +12,33 @@ use Rattle.reading.proofs.cursor.Cursor.item.Goals.{Else-not-skip}
 opens : (c : Else-not-skip) → Passes c.args.self.now c.skip.new.self (40 ∷ [])
 opens c = let told = c.if-not-skip.ensures in passes_byte c.args.self.now c.skip.new.self 40 told.next told.moved told.line
 
-pub returns-in-err-number : goal.returns-in-err-number
-returns-in-err-number c =
+pub returns-in_err-number : goal.returns-in_err-number
+returns-in_err-number c =
     let p = err_from_is_err_and c.from-residual.result c.from-residual.ensures.1 in
     let told = c.if-not-skip.ensures in
-    let e = c.in-err-number.field-0.0 in
+    let e = c.in_err-number.field-0.0 in
     subst (ItemRead c.args.self.now c.number.new.self) (sym (p.1 ∙ ap Err p.2))
-    (item_no_number c.args.self.now c.number.new.self e told.next (subst (λ a. NumberRead a c.number.new.self (Err e)) told.moved c.in-err-number.ensures))
+    (item_no_number c.args.self.now c.number.new.self e told.next (subst (λ a. NumberRead a c.number.new.self (Err e)) told.moved c.in_err-number.ensures))
 
 pub returns-then-not-skip : goal.returns-then-not-skip
 returns-then-not-skip c =
-    let p = c.in-ok-number.field-0 in
-    item_is_number c.args.self.now c.number.new.self p (subst (λ a. NumberRead a c.number.new.self (Ok p)) c.if-not-skip.ensures.moved c.in-ok-number.ensures)
+    let p = c.in_ok-number.field-0 in
+    item_is_number c.args.self.now c.number.new.self p (subst (λ a. NumberRead a c.number.new.self (Ok p)) c.if-not-skip.ensures.moved c.in_ok-number.ensures)
 
-pub returns-in-err-numbers : goal.returns-in-err-numbers
-returns-in-err-numbers c =
-    let p = err_from_is_err_and c.from-residual-in-err-numbers.result c.from-residual-in-err-numbers.ensures.1 in
+pub returns-in_err-numbers : goal.returns-in_err-numbers
+returns-in_err-numbers c =
+    let p = err_from_is_err_and c.from-residual-in_err-numbers.result c.from-residual-in_err-numbers.ensures.1 in
     subst (ItemRead c.args.self.now c.numbers.new.self) (sym (p.1 ∙ ap Err p.2))
-    (item_no_list c.args.self.now c.skip.new.self c.numbers.new.self (opens (goal.at.returns-in-err-numbers c).Else-not-skip) c.in-err-numbers.field-0.0 c.in-err-numbers.ensures)
+    (item_no_list c.args.self.now c.skip.new.self c.numbers.new.self (opens (goal.at.returns-in_err-numbers c).Else-not-skip) c.in_err-numbers.field-0.0 c.in_err-numbers.ensures)
 
-pub up-to-requires : goal.up-to-requires
-up-to-requires c =
-    let r = c.in-ok-numbers.ensures in
-    let over = list_over c.args.self.now c.skip.new.self c.numbers.new.self (opens (goal.at.up-to-requires c).Else-not-skip) tt r in
+pub up_to-requires : goal.up_to-requires
+up_to-requires c =
+    let r = c.in_ok-numbers.ensures in
+    let over = list_over c.args.self.now c.skip.new.self c.numbers.new.self (opens (goal.at.up_to-requires c).Else-not-skip) tt r in
     let sizes = ap length over.split ∙ length-append (spell_piece (numbers r.0)) c.numbers.new.self.rest.now in
     omega arith
 
 pub returns : goal.returns
 returns c =
-    let e = c.up-to.ensures in
-    item_is_list c.args.self.now c.skip.new.self c.numbers.new.self (opens (goal.at.returns c).Else-not-skip) tt c.up-to.result c.in-ok-numbers.ensures e.bytes e.place.0 e.place.1
+    let e = c.up_to.ensures in
+    item_is_list c.args.self.now c.skip.new.self c.numbers.new.self (opens (goal.at.returns c).Else-not-skip) tt c.up_to.result c.in_ok-numbers.ensures e.bytes e.place.0 e.place.1

@@ -14,13 +14,13 @@ whole : (c : After-advance-digits) → Took c.args.self.now c.advance-digits.new
 whole c =
     let e = c.advance-digits.ensures in
     let fits = front_fits is_digit c.args.self.now.rest.now in
-    took c.args.self.now c.advance-digits.new.self c.advance-digits.result c.run-len-n.result (omega (arith, c.run-len-n.ensures)) e.bytes e.rest e.place.0 e.place.1 e.moved.0 e.moved.1
+    took c.args.self.now c.advance-digits.new.self c.advance-digits.result c.run_len-n.result (omega (arith, c.run_len-n.ensures)) e.bytes e.rest e.place.0 e.place.1 e.moved.0 e.moved.1
 
 ended : (c : After-advance-digits) → begins is_digit c.advance-digits.new.self.rest.now ≡ false
 ended c =
     let r = c.args.self.now.rest.now in
     ap (begins is_digit) c.advance-digits.ensures.rest
-    ∙ ap (λ n. begins is_digit (drop n r)) c.run-len-n.ensures ∙ front_ends is_digit r
+    ∙ ap (λ n. begins is_digit (drop n r)) c.run_len-n.ensures ∙ front_ends is_digit r
 
 ran : (c : After-advance-digits) → Run c.advance-digits.result.bytes.now
 ran c =
@@ -28,14 +28,14 @@ ran c =
     let t = whole c in
     let e = ap length t.over.split in (
       omega (arith, t.over.moved, c.advance-digits.ensures.moved.1),
-      ap (all is_digit) c.advance-digits.ensures.bytes ∙ ap (λ n. all is_digit (take n r)) c.run-len-n.ensures ∙ front_passes is_digit r,
+      ap (all is_digit) c.advance-digits.ensures.bytes ∙ ap (λ n. all is_digit (take n r)) c.run_len-n.ensures ∙ front_passes is_digit r,
     )
 
-pub returns-then-is-none : goal.returns-then-is-none
-returns-then-is-none c =
-    let d = (goal.at.returns-then-is-none c).After-advance-digits in
-    let e = c.fault-then-is-none.ensures in
-    let no_value = sym (value_test c.advance-digits.result.bytes.now) ∙ ap is_some (sym c.value.ensures) ∙ c.if-is-none.ensures in (
+pub returns-then-is_none : goal.returns-then-is_none
+returns-then-is_none c =
+    let d = (goal.at.returns-then-is_none c).After-advance-digits in
+    let e = c.fault-then-is_none.ensures in
+    let no_value = sym (value_test c.advance-digits.result.bytes.now) ∙ ap is_some (sym c.value.ensures) ∙ c.if-is_none.ensures in (
       e.place.0,
       e.place.1,
       subst (WhyNoNumber c.args.self.now) (sym e.cause) (c.advance-digits.result.bytes.now, c.advance-digits.new.self.rest.now, (whole d).over.split, ran d, no_value, ended d),
@@ -44,4 +44,4 @@ returns-then-is-none c =
 pub returns : goal.returns
 returns c =
     let d = (goal.at.returns c).After-advance-digits in
-    (whole d, sym (value_test c.advance-digits.result.bytes.now) ∙ ap is_some (sym c.value.ensures) ∙ c.if-is-none.ensures, ended d)
+    (whole d, sym (value_test c.advance-digits.result.bytes.now) ∙ ap is_some (sym c.value.ensures) ∙ c.if-is_none.ensures, ended d)

@@ -21,12 +21,12 @@ returns-then-self-gt-MOST c = record {
   leftmost = fault_is_leftmost;
 }
 
-pub returns-in-err-tokens : goal.returns-in-err-tokens
-returns-in-err-tokens c =
+pub returns-in_err-tokens : goal.returns-in_err-tokens
+returns-in_err-tokens c =
     let p = err_from_is_err_and c.from-residual.result c.from-residual.ensures.1 in
-    simp (p.1, p.2) (record { answer = refused_at _ c.in-err-tokens.field-0.0 refl c.in-err-tokens.ensures; long = λ h. absurd (omega arith); defined = fault_answer _ c.in-err-tokens.field-0.0 refl c.in-err-tokens.ensures (omega arith); moves = refl; spells = read_spells; complete = proper_is_read; leftmost = fault_is_leftmost })
+    simp (p.1, p.2) (record { answer = refused_at _ c.in_err-tokens.field-0.0 refl c.in_err-tokens.ensures; long = λ h. absurd (omega arith); defined = fault_answer _ c.in_err-tokens.field-0.0 refl c.in_err-tokens.ensures (omega arith); moves = refl; spells = read_spells; complete = proper_is_read; leftmost = fault_is_leftmost })
 
 pub returns : goal.returns
 returns c =
-    let t = c.in-ok-tokens.ensures in
+    let t = c.in_ok-tokens.ensures in
     record { answer = (t.0, t.1, t.2); long = λ h. absurd (omega arith); defined = tokens_answer c.args.self.now.rest.now c.args.self.now.line t.0 _ _ t.1 t.2 (omega arith); moves = refl; spells = read_spells; complete = proper_is_read; leftmost = fault_is_leftmost }

@@ -11,11 +11,11 @@ returns g c =
     let p = c.args.book.now.pages in
     let line = c.args.line in
     let write : ℕ → Answer = λ total. opened line total (shares_of p line) in
-    let e = c.in-ok-total.ensures.answer in
-    let list_is = c.in-ok-total.ensures.written ∙ open_written o p line _ c.in-ok-total.total _ e in
+    let e = c.in_ok-total.ensures.answer in
+    let list_is = c.in_ok-total.ensures.written ∙ open_written o p line _ c.in_ok-total.total _ e in
     record {
       answer =
-          ap (λ (shares : List ℕ). Ok (opened line c.in-ok-total.total shares)) (front_shares p line _ _ _ c.seats-seats.ensures list_is)
+          ap (λ (shares : List ℕ). Ok (opened line c.in_ok-total.total shares)) (front_shares p line _ _ _ c.seats-seats.ensures list_is)
           ∙ ap (λ a. passed_up a write) e ∙ ap (λ (m : ℕ). passed_up (answered o p («open» line m)) write) (room_of _ _ _ c.seats-seats.ensures c.args.book.now.few);
-      book = ap (laid o) c.in-ok-total.ensures.book ∙ ap (λ (m : ℕ). laid o (left o p («open» line m))) (room_of _ _ _ c.seats-seats.ensures c.args.book.now.few);
+      book = ap (laid o) c.in_ok-total.ensures.book ∙ ap (λ (m : ℕ). laid o (left o p («open» line m))) (room_of _ _ _ c.seats-seats.ensures c.args.book.now.few);
     }
