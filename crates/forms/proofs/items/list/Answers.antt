@@ -5,7 +5,7 @@ use Rattle.forms.proofs.items.list.Goals as goal
 
 pub returns-in_err-part : goal.returns-in_err-part
 returns-in_err-part c =
-    ap taken_in c.from-residual.ensures ∙ sym (list_past c.args.items.now c.args.place c.in_err-part.ensures.lookup.3)
+    ap taken_in c.from_residual.ensures ∙ sym (list_past c.args.items.now c.args.place c.in_err-part.ensures.lookup.3)
 
 pub returns-in-List : goal.returns-in-List
 returns-in-List c =

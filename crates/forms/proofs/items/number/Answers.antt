@@ -3,7 +3,7 @@ use Rattle.forms.proofs.Places.{number_past, number_there, no_number_there}
 use Rattle.forms.proofs.items.number.Goals as goal
 
 pub returns-in_err-part : goal.returns-in_err-part
-returns-in_err-part c = c.from-residual.ensures ∙ sym (number_past c.args.items.now c.args.place c.in_err-part.ensures.lookup.3)
+returns-in_err-part c = c.from_residual.ensures ∙ sym (number_past c.args.items.now c.args.place c.in_err-part.ensures.lookup.3)
 
 pub returns-in-Number : goal.returns-in-Number
 returns-in-Number c =

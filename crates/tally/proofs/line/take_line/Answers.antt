@@ -9,7 +9,7 @@ use Rattle.tally.proofs.line.take_line.Goals as goal
 
 pub returns-in_err-tokens : goal.returns-in_err-tokens
 returns-in_err-tokens c =
-    let p = err_from_is_err_and c.from-residual.result c.from-residual.ensures.1 in
+    let p = err_from_is_err_and c.from_residual.result c.from_residual.ensures.1 in
     let is = p.1 ∙ ap Err p.2 in
     let d = desk_of c.args.desk.now in
     let line = c.args.reader.now.line in
@@ -17,13 +17,13 @@ returns-in_err-tokens c =
     let next = c.read_line.new.self.line in
     let rest = c.read_line.new.self.rest.now in
     record {
-      taken = by_error d d line next bytes rest c.from-residual.result _ is (not_read d d line next bytes rest _ c.in_err-tokens.ensures.answer);
+      taken = by_error d d line next bytes rest c.from_residual.result _ is (not_read d d line next bytes rest _ c.in_err-tokens.ensures.answer);
       long = long_so line bytes _ _ c.in_err-tokens.ensures.answer is;
     }
 
 pub returns-in_err-order : goal.returns-in_err-order
 returns-in_err-order c =
-    let p = err_from_is_err_and c.from-residual-in_err-order.result c.from-residual-in_err-order.ensures.1 in
+    let p = err_from_is_err_and c.from_residual-in_err-order.result c.from_residual-in_err-order.ensures.1 in
     let is = p.1 ∙ ap Err p.2 in
     let d = desk_of c.args.desk.now in
     let line = c.args.reader.now.line in
@@ -33,14 +33,14 @@ returns-in_err-order c =
     let got = c.in_ok-tokens.ensures in
     record {
       taken =
-          by_error d d line next bytes rest c.from-residual-in_err-order.result _ is
+          by_error d d line next bytes rest c.from_residual-in_err-order.result _ is
           (not_judged got.spells c.judge.ensures.forms line next bytes rest _ (answer_says bytes line _ got.answer) got.moves d c.judge.result _ (c.judge.ensures.answer ∙ ap (λ ts. judged (map told ts)) c.as_slice.ensures.value) c.in_err-order.was);
       long = not_long line bytes _ _ _ _ got.answer;
     }
 
 pub returns-in_err-follow : goal.returns-in_err-follow
 returns-in_err-follow c =
-    let p = err_from_is_err_and c.from-residual-in_err-follow.result c.from-residual-in_err-follow.ensures.1 in
+    let p = err_from_is_err_and c.from_residual-in_err-follow.result c.from_residual-in_err-follow.ensures.1 in
     let is = p.1 ∙ ap Err p.2 in
     let d = desk_of c.args.desk.now in
     let after = desk_of c.follow.new.self in
@@ -51,7 +51,7 @@ returns-in_err-follow c =
     let got = c.in_ok-tokens.ensures in
     record {
       taken =
-          by_error d after line next bytes rest c.from-residual-in_err-follow.result _ is
+          by_error d after line next bytes rest c.from_residual-in_err-follow.result _ is
           (done_so got.spells c.judge.ensures.forms line next bytes rest _ (answer_says bytes line _ got.answer) got.moves d after c.judge.result _ _
           (c.judge.ensures.answer ∙ ap (λ ts. judged (map told ts)) c.as_slice.ensures.value) c.in_ok-order.was c.in_err-follow.ensures.answer c.follow.ensures.desk);
       long = not_long line bytes _ _ _ _ got.answer;

@@ -6,7 +6,7 @@ use Rattle.book.proofs.book.Book.enter.Goals as goal
 
 pub returns-in_err-may_enter : goal.returns-in_err-may_enter
 returns-in_err-may_enter g c =
-    let p = err_from_is_err_and c.from-residual.result c.from-residual.ensures.1 in
+    let p = err_from_is_err_and c.from_residual.result c.from_residual.ensures.1 in
     let call = enter c.args.line c.args.house c.args.figure c.args.strip.now in
     record {
       answer =

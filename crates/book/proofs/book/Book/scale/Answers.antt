@@ -6,7 +6,7 @@ use Rattle.book.proofs.book.Book.scale.Goals as goal
 
 pub returns-in_err-may_scale : goal.returns-in_err-may_scale
 returns-in_err-may_scale g c =
-    let p = err_from_is_err_and c.from-residual.result c.from-residual.ensures.1 in
+    let p = err_from_is_err_and c.from_residual.result c.from_residual.ensures.1 in
     let call = scale c.args.destination c.args.a c.args.constant in
     record {
       answer =

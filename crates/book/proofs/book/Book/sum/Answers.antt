@@ -6,7 +6,7 @@ use Rattle.book.proofs.book.Book.sum.Goals as goal
 
 pub returns-in_err-may_sum : goal.returns-in_err-may_sum
 returns-in_err-may_sum g c =
-    let p = err_from_is_err_and c.from-residual.result c.from-residual.ensures.1 in
+    let p = err_from_is_err_and c.from_residual.result c.from_residual.ensures.1 in
     let call = sum c.args.destination c.args.a c.args.b in
     record {
       answer =

@@ -7,13 +7,13 @@ use Rattle.forms.proofs.numbers.taking.spaced.Goals.{then-bytes-i-eq32+in_ok-val
 pub returns-in_err-value : goal.returns-in_err-value
 returns-in_err-value c =
     let l = c.loop-i in
-    ap taken_in c.from-residual.ensures
+    ap taken_in c.from_residual.ensures
     ∙ sym (no_number (numbers_in l.numbers) c.args.bytes.now l.start l.i (omega arith) l.invariant.1 c.if-bytes-i-eq32.true c.in_err-value.ensures)
 
 pub returns-in_err-numbers : goal.returns-in_err-numbers
 returns-in_err-numbers c =
     let l = c.loop-i in
-    ap taken_in c.from-residual-in_err-numbers.ensures
+    ap taken_in c.from_residual-in_err-numbers.ensures
     ∙ sym (no_room (numbers_in l.numbers) c.args.bytes.now l.start l.i (omega arith) l.invariant.1 c.if-bytes-i-eq32.true (was_full _ _ c.in_err-numbers.ensures))
 
 pub loop-i-preserved : goal.loop-i-preserved
@@ -33,7 +33,7 @@ loop-i-preserved c =
 pub returns-in_err-value-2 : goal.returns-in_err-value-2
 returns-in_err-value-2 c =
     let l = c.loop-i in
-    ap taken_in c.from-residual-in_err-value-2.ensures
+    ap taken_in c.from_residual-in_err-value-2.ensures
     ∙ sym (no_last (numbers_in l.numbers) c.args.bytes.now l.start l.i (omega arith) l.invariant.1 c.in_err-value-2.ensures)
 
 pub returns : goal.returns

@@ -14,7 +14,7 @@ opens c = let told = c.if-not-skip.ensures in passes_byte c.args.self.now c.skip
 
 pub returns-in_err-number : goal.returns-in_err-number
 returns-in_err-number c =
-    let p = err_from_is_err_and c.from-residual.result c.from-residual.ensures.1 in
+    let p = err_from_is_err_and c.from_residual.result c.from_residual.ensures.1 in
     let told = c.if-not-skip.ensures in
     let e = c.in_err-number.field-0.0 in
     subst (ItemRead c.args.self.now c.number.new.self) (sym (p.1 ∙ ap Err p.2))
@@ -27,7 +27,7 @@ returns-then-not-skip c =
 
 pub returns-in_err-numbers : goal.returns-in_err-numbers
 returns-in_err-numbers c =
-    let p = err_from_is_err_and c.from-residual-in_err-numbers.result c.from-residual-in_err-numbers.ensures.1 in
+    let p = err_from_is_err_and c.from_residual-in_err-numbers.result c.from_residual-in_err-numbers.ensures.1 in
     subst (ItemRead c.args.self.now c.numbers.new.self) (sym (p.1 ∙ ap Err p.2))
     (item_no_list c.args.self.now c.skip.new.self c.numbers.new.self (opens (goal.at.returns-in_err-numbers c).Else-not-skip) c.in_err-numbers.field-0.0 c.in_err-numbers.ensures)
 

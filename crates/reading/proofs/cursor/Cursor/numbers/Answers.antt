@@ -14,9 +14,9 @@ loop-count-init c =
 
 pub returns-in_err-_number : goal.returns-in_err-_number
 returns-in_err-_number c =
-    let p = err_from_is_err_and c.from-residual.result c.from-residual.ensures.1 in
+    let p = err_from_is_err_and c.from_residual.result c.from_residual.ensures.1 in
     let e = c.in_err-_number.field-0.0 in
-    subst (λ a. ListRead a c.number.new.self c.from-residual.result) c.if-skip.ensures.moved
+    subst (λ a. ListRead a c.number.new.self c.from_residual.result) c.if-skip.ensures.moved
     (subst (ListRead c.skip.new.self c.number.new.self) (sym (p.1 ∙ ap Err p.2))
     (listing_fault c.skip.new.self c.loop-count.self c.number.new.self c.loop-count._count e c.loop-count.invariant c.in_err-_number.ensures))
 
@@ -39,9 +39,9 @@ loop-count-preserved c =
 
 pub returns-in_err-_number-2 : goal.returns-in_err-_number-2
 returns-in_err-_number-2 c =
-    let p = err_from_is_err_and c.from-residual-in_err-_number-2.result c.from-residual-in_err-_number-2.ensures.1 in
+    let p = err_from_is_err_and c.from_residual-in_err-_number-2.result c.from_residual-in_err-_number-2.ensures.1 in
     let e = c.in_err-_number-2.field-0.0 in
-    subst (λ a. ListRead a c.number-2.new.self c.from-residual-in_err-_number-2.result) c.if-skip.ensures.moved
+    subst (λ a. ListRead a c.number-2.new.self c.from_residual-in_err-_number-2.result) c.if-skip.ensures.moved
     (subst (ListRead c.skip.new.self c.number-2.new.self) (sym (p.1 ∙ ap Err p.2))
     (listing_fault c.skip.new.self c.loop-count.self c.number-2.new.self c.loop-count._count e c.loop-count.invariant c.in_err-_number-2.ensures))
 

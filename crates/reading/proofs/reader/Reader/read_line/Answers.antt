@@ -23,7 +23,7 @@ returns-then-self-gt-MOST c = record {
 
 pub returns-in_err-tokens : goal.returns-in_err-tokens
 returns-in_err-tokens c =
-    let p = err_from_is_err_and c.from-residual.result c.from-residual.ensures.1 in
+    let p = err_from_is_err_and c.from_residual.result c.from_residual.ensures.1 in
     simp (p.1, p.2) (record { answer = refused_at _ c.in_err-tokens.field-0.0 refl c.in_err-tokens.ensures; long = λ h. absurd (omega arith); defined = fault_answer _ c.in_err-tokens.field-0.0 refl c.in_err-tokens.ensures (omega arith); moves = refl; spells = read_spells; complete = proper_is_read; leftmost = fault_is_leftmost })
 
 pub returns : goal.returns

@@ -9,7 +9,7 @@ use Rattle.tally.proofs.desk.following.carry_out.Goals as goal
 
 pub returns-in_err-enter : goal.returns-in_err-enter
 returns-in_err-enter g c =
-    let p = err_from_is_err_and c.from-residual-in_err-enter.result c.from-residual-in_err-enter.ensures.1 in
+    let p = err_from_is_err_and c.from_residual-in_err-enter.result c.from_residual-in_err-enter.ensures.1 in
     let o = g.K.Kind.ops in
     let pages = c.args.book.now.pages in
     let call : List ℕ → Call = λ strip. enter c.in-Enter.line c.in-Enter.house c.in-Enter.figure strip in
@@ -25,7 +25,7 @@ returns-in_err-enter g c =
 
 pub returns-in_err-sum : goal.returns-in_err-sum
 returns-in_err-sum g c =
-    let p = err_from_is_err_and c.from-residual-in_err-sum.result c.from-residual-in_err-sum.ensures.1 in
+    let p = err_from_is_err_and c.from_residual-in_err-sum.result c.from_residual-in_err-sum.ensures.1 in
     let o = g.K.Kind.ops in
     let pages = c.args.book.now.pages in
     let call = sum c.in-Sum.destination c.in-Sum.a c.in-Sum.b in
