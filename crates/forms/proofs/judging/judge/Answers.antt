@@ -10,9 +10,9 @@ use Rattle.forms.proofs.judging.judge.Goals as goal
 pub returns-in_default : goal.returns-in_default
 returns-in_default c = record { answer = search rules; forms = judges_forms; lists = list_is_valued }
 
-pub returns-in_default·2 : goal.returns-in_default·2
-returns-in_default·2 c =
-    record { answer = search (rules, nil_from_length c.args.tokens.now c.in_default.ensures.cases); forms = judges_forms; lists = list_is_valued }
+pub returns-in_default-2 : goal.returns-in_default-2
+returns-in_default-2 c =
+    record { answer = search (rules, nil_from_length c.args.tokens.now c.in_default.in-None-own.ensures.0); forms = judges_forms; lists = list_is_valued }
 
 pub returns-in_err-word : goal.returns-in_err-word
 returns-in_err-word c = record { answer = search rules; forms = judges_forms; lists = list_is_valued }
@@ -22,7 +22,7 @@ returns c =
     let arm = c.in-Some-Word-default in
     let split = arm.ensures.cases.0 in
     let is : c.args.tokens.now ≡ Word arm.part ∷ arm.items.now = search (rules, split) in
-    let known : Some c.in_ok-word.word ≡ word_of arm.part.bytes.now = sym c.in_ok-word.ensures.ok-part ∙ c.of.ensures in
+    let known : Some c.in_ok-word.word ≡ word_of arm.part.bytes.now = sym c.in_ok-word.ensures.ok_part ∙ c.of.ensures in
     record {
       answer =
           ap judged_meant c.ok_or-2.ensures.value
