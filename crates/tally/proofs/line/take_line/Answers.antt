@@ -17,8 +17,8 @@ returns-in_err-tokens c =
     let next = c.read_line.new.self.line in
     let rest = c.read_line.new.self.rest.now in
     record {
-      taken = by_error d d line next bytes rest c.from_residual.result _ is (not_read d d line next bytes rest _ c.in_err-tokens.ensures.answer);
-      long = long_so line bytes _ _ c.in_err-tokens.ensures.answer is;
+      taken = by_error d d line next bytes rest c.from_residual.result _ is (not_read d d line next bytes rest _ c.in_err-tokens.ensures.defined);
+      long = long_so line bytes _ _ c.in_err-tokens.ensures.defined is;
     }
 
 pub returns-in_err-order : goal.returns-in_err-order
@@ -34,8 +34,8 @@ returns-in_err-order c =
     record {
       taken =
           by_error d d line next bytes rest c.from_residual-in_err-order.result _ is
-          (not_judged got.spells c.judge.ensures.forms line next bytes rest _ (answer_says bytes line _ got.answer) got.moves d c.judge.result _ (c.judge.ensures.answer ∙ ap (λ ts. judged (map told ts)) c.as_slice.ensures.value) c.in_err-order.was);
-      long = not_long line bytes _ _ _ _ got.answer;
+          (not_judged got.spells c.judge.ensures.forms line next bytes rest _ (answer_says bytes line _ got.defined) got.moves d c.judge.result _ (c.judge.ensures.answer ∙ ap (λ ts. judged (map told ts)) c.as_slice.ensures.value) c.in_err-order.was);
+      long = not_long line bytes _ _ _ _ got.defined;
     }
 
 pub returns-in_err-follow : goal.returns-in_err-follow
@@ -52,9 +52,9 @@ returns-in_err-follow c =
     record {
       taken =
           by_error d after line next bytes rest c.from_residual-in_err-follow.result _ is
-          (done_so got.spells c.judge.ensures.forms line next bytes rest _ (answer_says bytes line _ got.answer) got.moves d after c.judge.result _ _
+          (done_so got.spells c.judge.ensures.forms line next bytes rest _ (answer_says bytes line _ got.defined) got.moves d after c.judge.result _ _
           (c.judge.ensures.answer ∙ ap (λ ts. judged (map told ts)) c.as_slice.ensures.value) c.in_ok-order.was c.in_err-follow.ensures.answer c.follow.ensures.desk);
-      long = not_long line bytes _ _ _ _ got.answer;
+      long = not_long line bytes _ _ _ _ got.defined;
     }
 
 pub returns : goal.returns
@@ -68,7 +68,7 @@ returns c =
     let got = c.in_ok-tokens.ensures in
     record {
       taken =
-          done_so got.spells c.judge.ensures.forms line next bytes rest _ (answer_says bytes line _ got.answer) got.moves d after c.judge.result _ _
+          done_so got.spells c.judge.ensures.forms line next bytes rest _ (answer_says bytes line _ got.defined) got.moves d after c.judge.result _ _
           (c.judge.ensures.answer ∙ ap (λ ts. judged (map told ts)) c.as_slice.ensures.value) c.in_ok-order.was c.in_ok-follow.ensures.answer c.follow.ensures.desk;
-      long = not_long line bytes _ _ _ _ got.answer;
+      long = not_long line bytes _ _ _ _ got.defined;
     }
