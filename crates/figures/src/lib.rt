@@ -11,7 +11,7 @@ pub fn worked_figures()
 #[cfg(test)]
 mod sheets;
 #[cfg(test)]
-mod tally;
+mod whole_tally;
 
 #[cfg(test)]
 mod tests {

@@ -9,13 +9,12 @@ pub mod reader;
 pub mod token;
 
 pub use digits::value;
+pub use parts::MOST_NUMBERS;
 pub use reader::Reader;
 pub use token::{Cause, Part, ReadError, ReadFault, Token};
 
-// The most bytes that a sheet may have, and the most numbers of a list.
+// The most bytes that a sheet may have.
 pub const MOST_BYTES: usize = 65_536;
-
-pub const MOST_NUMBERS: usize = 9;
 
 #[cfg(test)]
 mod tests {

@@ -8,7 +8,7 @@ use crate::token::{Cause, Part, ReadError, ReadFault, Token};
 use std::alloc::Global;
 
 // the most numbers that a list may have
-const MOST_NUMBERS: usize = 9;
+pub const MOST_NUMBERS: usize = 9;
 
 impl<'a> Cursor<'a> {
     // One to eight letters.
