@@ -1,11 +1,10 @@
 -- A book's pages, set or unset: what each call answers, writes and leaves. Assumes nothing.
-use Rattle.std.specs.Prelude.{ℕ, ◌≤◌, cond, List, Some, None, Ok, Err, Option, Result}
+use Rattle.std.specs.Prelude.{ℕ, List, Some, None, Ok, Err, Result}
 use Rattle.kinds.specs.Kind.{Ops}
-use Rattle.sharing.specs.Shares.{most_seats}
 use Rattle.sharing.specs.declared.refusal.Refusal.{Refusal}
 use Rattle.sharing.specs.declared.refusal.Refusal.TheVariants.{Unset, AlreadySet}
 use Rattle.book.specs.Calls.{Call}
-use Rattle.book.specs.Secrets.{nothing_held, opened, shown}
+use Rattle.book.specs.Secrets.{nothing_held}
 use Rattle.book.specs.Slates.{why, why_set, fresh, allowed}
 use Rattle.book.specs.States.{State, after, answer}
 use Rattle.book.specs.declared.pages.Pages.{Pages}

@@ -1,9 +1,9 @@
 -- A set book as a whole: its slate and its secrets, what a call answers, writes and leaves. Assumes nothing.
-use Rattle.std.specs.Prelude.{ℕ, Bool, List, Some, None, Ok, Err, Option, Result}
+use Rattle.std.specs.Prelude.{ℕ, Some, None, Ok, Err, Result}
 use Rattle.kinds.specs.Kind.{Ops}
 use Rattle.sharing.specs.declared.refusal.Refusal.{Refusal}
 use Rattle.book.specs.Calls.{Call, enter, sum, scale, begin, deal, gather, «open», show}
-use Rattle.book.specs.Secrets.{nothing_held, move, opened, total_of}
+use Rattle.book.specs.Secrets.{nothing_held, move, total_of}
 use Rattle.book.specs.Slates.{fresh, why, mark}
 use Rattle.book.specs.declared.secrets.Secrets.{Secrets}
 use Rattle.book.specs.declared.slate.Slate.{Slate}

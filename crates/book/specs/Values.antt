@@ -1,5 +1,5 @@
 -- The plain calculation: the value of each line, worked out from the accepted calls alone. Assumes nothing.
-use Rattle.std.specs.Prelude.{ℕ, Bool, cond, Some, None, ◌==◌}
+use Rattle.std.specs.Prelude.{ℕ, cond, Some, None, ◌==◌}
 use Rattle.kinds.specs.Kind.{Ops}
 use Rattle.book.specs.Calls.{Call, enter, sum, scale, begin, deal, gather, «open», show}
 use Rattle.book.specs.Slates.{last_gather, why}

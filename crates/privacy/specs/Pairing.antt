@@ -1,5 +1,5 @@
 -- Two runs that make the same calls, and the pairing of the strips that the group does not know. Assumes nothing.
-use Rattle.std.specs.Prelude.{◌≡◌, ℕ, ◌<◌, Bool, true, false, List, [], ◌∷◌, length, Some, None}
+use Rattle.std.specs.Prelude.{◌≡◌, ℕ, ◌<◌, true, false, List, [], ◌∷◌, length, Some, None}
 use Rattle.kinds.specs.Kind.{Ops, difference}
 use Rattle.sharing.specs.Masks.{shifted}
 use Rattle.sharing.specs.Rebuilding.{all_below, holds}

@@ -1,10 +1,10 @@
 -- A group of fewer than k seats learns nothing beyond the opened totals, over any list of calls. Assumes nothing.
-use Rattle.std.specs.Prelude.{◌≡◌, ℕ, ◌-◌, ◌<◌, List, [], ◌∷◌, ◌++◌, length, take, replicate, None, Option}
+use Rattle.std.specs.Prelude.{◌≡◌, ℕ, ◌-◌, ◌<◌, List, [], ◌∷◌, ◌++◌, length, take, replicate, None}
 use Rattle.kinds.specs.Kind.{Ops, Lawful}
 use Rattle.sharing.specs.Masks.{mask_of}
 use Rattle.book.specs.Calls.{Call, enter, sum, scale, begin, deal, gather, «open», show}
 use Rattle.book.specs.Slates.{fresh, why, why_set}
-use Rattle.book.specs.States.{State, set_book}
+use Rattle.book.specs.States.{set_book}
 use Rattle.book.specs.Values.{Values, no_values, reckoned}
 use Rattle.book.specs.declared.slate.Slate.{Slate}
 use Rattle.privacy.specs.Pairing.{Side, first, second, Item, strip_length, call_in, calls_in, Choice, AllOwn, paired}

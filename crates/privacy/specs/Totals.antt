@@ -1,6 +1,6 @@
 -- Totals are plain: over every run, the total that an accepted open answers is the line's value, and enough seats'
 -- shares of a full line rebuild it. Assumes nothing.
-use Rattle.std.specs.Prelude.{◌≡◌, ℕ, ◌≤◌, true, List, [], ◌∷◌, map, length, None, Ok, Option}
+use Rattle.std.specs.Prelude.{◌≡◌, ℕ, ◌≤◌, true, List, [], ◌∷◌, map, length, None, Ok}
 use Rattle.kinds.specs.Kind.{Ops, Lawful}
 use Rattle.sharing.specs.Rebuilding.{apart, rebuilt}
 use Rattle.book.specs.Calls.{Call, «open»}

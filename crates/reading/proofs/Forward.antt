@@ -2,7 +2,7 @@
 use Rattle.std.proofs.Common.{◌≡◌, ℕ, suc, ◌+◌, ◌-◌, ◌<◌, ◌≤◌, Bool, true, false, cond, ltb, List, [], ◌∷◌, ◌++◌, length, sym, refl, ap, ◌∙◌, append_assoc, append-nil, add-zero, arith}
 use Rattle.std.proofs.lemmas.Bool.{lt-ltb, le-ltb, and_parts, cond-true, cond-false}
 use Rattle.std.proofs.lemmas.List.{length_push}
-use Rattle.reading.specs.Forms.{Form, number, numbers, is_letter, is_digit, is_number, all, begins}
+use Rattle.reading.specs.Forms.{Form, number, is_letter, is_digit, is_number, all, begins}
 use Rattle.reading.specs.Read.{Reading, State, Step, faulted, goes, in_word, after_item, at_item, in_number, at_number, in_list, step, run, onward, next_number, form_of, with_item}
 
 pub cond_same : {A : Type 0} (b : Bool) (x : A) → cond b x x ≡ x

@@ -3,7 +3,7 @@ use Rattle.std.proofs.Common.{◌≡◌, ℕ, ◌+◌, ◌-◌, ◌<◌, ◌≤�
 use Rattle.std.proofs.lemmas.Bool.{ltb-true, eqb-true, and_parts, and_from, cond_both}
 use Rattle.std.proofs.lemmas.List.{length_push, flat_map_more}
 use Rattle.reading.specs.Forms.{Form, Piece, number, numbers, is_letter, is_digit, is_number, all, spaced, spell_item, opened, spell, Each, Word, Number, Run, ProperPiece, Proper}
-use Rattle.reading.specs.Read.{Reading, State, Step, faulted, form_read, goes, ends, refuses, before, in_word, after_item, at_item, in_number, at_list, at_number, in_list, closed, step, run, read, judged, next_item, next_number, form_of, with_item}
+use Rattle.reading.specs.Read.{Reading, State, Step, faulted, form_read, goes, ends, refuses, before, in_word, after_item, at_item, in_number, at_list, at_number, in_list, closed, step, run, judged, next_item, next_number, form_of, with_item}
 use Rattle.reading.specs.Faults.{lead, so_far}
 use Rattle.reading.specs.Laws.{ReadSpells}
 use Rattle.reading.proofs.Forward.{then-run}

@@ -1,7 +1,7 @@
 -- What a fault says of the line's bytes. Assumes nothing.
 use Rattle.std.specs.Prelude.{◌≡◌, ℕ, ◌+◌, ◌≤◌, false, ◌⊎◌, List, [], ◌∷◌, ◌++◌, length}
 use Rattle.std.specs.List.{flat_map}
-use Rattle.reading.specs.Forms.{Form, is_digit, is_number, begins, all, opened, spell, Each, Number, Run, Proper, Loose}
+use Rattle.reading.specs.Forms.{Form, is_digit, is_number, begins, opened, spell, Each, Number, Run, Proper, Loose}
 use Rattle.reading.specs.Read.{State, before, in_word, after_item, at_item, in_number, at_list, at_number, in_list, closed, faulted, read}
 
 -- numbers with a space behind each

@@ -1,8 +1,6 @@
-use Rattle.std.proofs.Common.{◌≡◌, Some, None, Option, sym, ap, ◌∙◌, ap₂}
+use Rattle.std.proofs.Common.{sym, ◌∙◌, ap₂}
 use Rattle.book.specs.Books.{written_down}
 use Rattle.book.specs.Calls.{gather}
-use Rattle.book.specs.Secrets.{move}
-use Rattle.book.specs.Slates.{mark, gathered_by}
 use Rattle.book.proofs.Answering.{accepted_done, accepted_left}
 use Rattle.book.proofs.Gathering.{mark_gather, move_gather}
 use Rattle.book.proofs.book.Book.gather.Goals as goal

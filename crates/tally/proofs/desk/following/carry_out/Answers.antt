@@ -1,7 +1,7 @@
 use Rattle.std.proofs.Common.{ℕ, List, Err, sym, ap, ◌∙◌}
 use Rattle.std.proofs.lemmas.Result.{err_from_is_err_and}
 use Rattle.book.specs.Books.{answered, left}
-use Rattle.book.specs.Calls.{Call, enter, sum}
+use Rattle.book.specs.Calls.{Call, enter}
 use Rattle.forms.specs.Orders.{meant}
 use Rattle.tally.specs.Desks.{result_of, done, laid, on_book, passed_up}
 use Rattle.tally.proofs.Telling.{refused_told}
