@@ -4,9 +4,8 @@
     python3 tools/planted.py [--logs FOLDER] [NAME...]   try all bugs of tools/planted.txt, or those named
     python3 tools/planted.py --list                      only list them
 
-The repository is copied into a temporary folder, with target/ if there is one, and the crates are proved there once.
-Then, one at a time, each bug is made in the copy, `rt dev` checks its crate, and the file is put back. A line says what
-came of it:
+The repository is copied into a temporary folder, and the crates are proved there once. Then, one at a time, each bug is
+made in the copy, `rt check` checks its crate, and the file is put back. A line says what came of it:
 
     name  crate  refused  in src|specs|proofs: the first function that is not proved, and the place or need that fails
 
@@ -29,7 +28,7 @@ FIELDS = ["bug", "crate", "file", "old", "new"]
 UNPROVED = re.compile(r"^(?:fn|impl|trait|struct|enum|const) (\S+): (?!proved)(?!.*it (?:calls|waits))", re.M)
 LANGUAGE = re.compile(r"^\S+\.rt:\d+:\d+: error\[.*", re.M)
 FAILURE = re.compile(
-    r"^(?:note: )?\S*?/((src|specs|proofs)/\S+:\d+:\d+): (?:error: |(?=it is not proved))(.*(?:\n  .*)*)", re.M
+    r"^(?:note: )?(?:\S*?/)?((src|specs|proofs)/\S+:\d+:\d+): (?:error: |(?=it is not proved))(.*(?:\n  .*)*)", re.M
 )
 VANISHED = re.compile(r"has no (?:field|\S+ that can be named)")
 
@@ -45,8 +44,9 @@ def planted():
     return bugs
 
 
-def rt(folder, *words):
-    return subprocess.run(["rt", *words], cwd=folder, stdout=subprocess.PIPE, stderr=subprocess.STDOUT, text=True)
+def proof(copy, crate):
+    folder = copy / "crates" / crate
+    return subprocess.run(["rt", "check"], cwd=folder, stdout=subprocess.PIPE, stderr=subprocess.STDOUT, text=True)
 
 
 def verdict(status, output):
@@ -70,7 +70,7 @@ def attempt(copy, bug, logs):
     if text.count(bug["old"]) != 1:
         return "BAD", "its text stands %d times in the file" % text.count(bug["old"])
     path.write_text(text.replace(bug["old"], bug["new"]))
-    check = rt(copy, "dev", bug["crate"])
+    check = proof(copy, bug["crate"])
     path.write_text(text)
     if logs:
         pathlib.Path(logs, bug["bug"] + ".log").write_text(check.stdout)
@@ -93,10 +93,11 @@ def main(names):
     refused = 0
     with tempfile.TemporaryDirectory() as folder:
         copy = pathlib.Path(folder, "copy")
-        shutil.copytree(ROOT, copy, symlinks=True, ignore=shutil.ignore_patterns(".git"))
-        proved = rt(copy, "check", *CRATES)
-        if proved.returncode != 0:
-            sys.exit("the crates are not proved as they stand:\n" + proved.stdout)
+        shutil.copytree(ROOT, copy, symlinks=True, ignore=shutil.ignore_patterns(".git", "out"))
+        for crate in CRATES:
+            proved = proof(copy, crate)
+            if proved.returncode != 0:
+                sys.exit("the crates are not proved as they stand:\n" + proved.stdout)
         for bug in bugs:
             word, why = attempt(copy, bug, logs)
             refused += word == "refused"
