@@ -1,22 +1,9 @@
 #!/usr/bin/env python3
-"""The expected output of the crate `products`: every product of two bytes, by an independent program.
+"""The expected output of the crate `products`: every product of two bytes, a row for each first factor, in hexadecimal.
 
-A byte is a polynomial over two elements, and products are reduced by x^8 + x^4 + x^3 + x + 1. There is a row for
-each first factor, in hexadecimal.
+The product is that of vectors.py, which shares nothing with the engine.
 """
-
-
-def product(a, b):
-    result = 0
-    while b:
-        if b & 1:
-            result ^= a
-        b >>= 1
-        a <<= 1
-        if a & 0x100:
-            a ^= 0x11B
-    return result
-
+from vectors import Bytes
 
 for a in range(256):
-    print(f"{a:02x}: " + "".join(f"{product(a, b):02x}" for b in range(256)))
+    print(f"{a:02x}: " + "".join(f"{Bytes().mul(a, b):02x}" for b in range(256)))
