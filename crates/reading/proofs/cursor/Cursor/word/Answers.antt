@@ -35,6 +35,6 @@ returns c =
     let fits = front_fits is_letter a.rest.now in
     let some : 0 < n = omega arith in (
       took a b c.advance.result n (omega (arith, c.run_len-n.ensures)) e.bytes e.rest e.place.0 e.place.1 e.moved.0 e.moved.1,
-      word_some a.column a.rest.now n c.run_len-n.ensures some c.if-n-gt8.false
+      word_some a.column a.rest.now n c.run_len-n.ensures some (omega arith)
           ∙ sym (λ i. run (after_item (form_of (e.bytes i))) (e.moved.1 i) (e.rest i)),
     )
