@@ -1,6 +1,6 @@
 // What an order does at the desk.
 ghost use Rattle.std.specs.Prelude.{◌≡◌};
-ghost use Rattle.forms.specs.Orders.{meant, show as show-order, «open» as open_order};
+ghost use Rattle.forms.specs.Orders.{meant, show as show_order, «open» as open_order};
 ghost use Rattle.tally.specs.Desks.{bare, laid, desk_of, result_of, on_book, on_desk, on_bare};
 
 use super::Desk;
@@ -28,8 +28,8 @@ fn open<K: Kind>(book: &mut Book<K>, line: u32) -> Result<Answer, FormFault>
 
 // Show is lent a list of all its entries.
 fn show<K: Kind>(book: &mut Book<K>, seat: u32) -> Result<Answer, FormFault>
-    ensures answer { result_of result ≡ (on_book K.Kind.ops book.old.pages (show-order seat)).answer }
-    ensures book { laid K.Kind.ops book.new.pages ≡ (on_book K.Kind.ops book.old.pages (show-order seat)).desk }
+    ensures answer { result_of result ≡ (on_book K.Kind.ops book.old.pages (show_order seat)).answer }
+    ensures book { laid K.Kind.ops book.new.pages ≡ (on_book K.Kind.ops book.old.pages (show_order seat)).desk }
 {
     let mut entries = [0; SHOWN];
     book.show(seat, &mut entries)?;
