@@ -16,7 +16,7 @@ const UNIT: Code = 1;
 // x^8 + x^4 + x^3 + x + 1.
 const MODULUS: u32 = 0x11b;
 
-const RECIPROCALS: Reciprocals = [
+static RECIPROCALS: Reciprocals = [
     [0, 1, 141, 246, 203, 82, 123, 209, 232, 79],
     [1, 0, 246, 141, 82, 203, 209, 123, 79, 232],
     [141, 246, 0, 1, 123, 209, 203, 82, 41, 192],
@@ -30,6 +30,7 @@ const RECIPROCALS: Reciprocals = [
 ];
 
 // The product of two polynomials. No branch depends on a or b.
+#[tactic(auto, using(crate::specs::BytesLemmas::multiplied_below), unfolding(crate::specs::Bytes::multiplied))]
 fn carryless(a: u32, b: u32) -> u32
     requires { (a < 256) × (b < 256) }
     ensures product { result ≡ multiplied 8 a b }
@@ -43,6 +44,7 @@ fn carryless(a: u32, b: u32) -> u32
 }
 
 // The remainder of a polynomial by the modulus. No branch depends on a.
+#[tactic(auto, unfolding(crate::specs::Bytes::reduced))]
 fn remainder(a: u32) -> u32
     requires { a < 2 ^ 15 }
     ensures { result ≡ reduced 7 a }
@@ -75,6 +77,7 @@ impl Kind for Byte {
         a % SIZE
     }
 
+    #[tactic(auto, unfolding(crate::specs::Bytes::byte_product))]
     fn product(a: Code, b: Code) -> Code {
         remainder(carryless(a % SIZE, b % SIZE))
     }
@@ -83,6 +86,7 @@ impl Kind for Byte {
         UNIT
     }
 
+    // As in the other kinds: a line that names what they share.
     fn point(i: u32) -> Code {
         points::point(i)
     }

@@ -5,8 +5,8 @@ ghost use Rattle.std.specs.Prelude.{◌≡◌};
 ghost use Rattle.kinds.specs.Kind.{Ops, Lawful};
 
 mod byte;
-mod modular;
 mod points;
+mod remainders;
 mod small;
 mod wide;
 

@@ -5,7 +5,7 @@ ghost use Rattle.kinds.specs.Tables.{point_code, entry};
 use super::{Code, LAST_POINT};
 
 // How many numbers have a point: 0 to the last.
-pub const POINTS: usize = 10;
+pub const POINTS: usize = LAST_POINT as usize + 1;
 
 // Row i, column j: the reciprocal of point i - point j, and 0 where i and j are equal.
 pub type Reciprocals = [[Code; POINTS]; POINTS];
@@ -21,9 +21,9 @@ pub(super) fn point(i: u32) -> Code
 pub(super) fn at(table: &Reciprocals, i: u32, j: u32) -> Code
     ensures { result ≡ entry table.now i j }
 {
-    if i <= LAST_POINT && j <= LAST_POINT {
-        table[i as usize][j as usize]
-    } else {
-        0
-    }
+    table
+        .get(i as usize)
+        .and_then(|row| row.get(j as usize))
+        .copied()
+        .unwrap_or(0)
 }

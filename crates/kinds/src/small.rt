@@ -6,14 +6,12 @@ ghost use Rattle.std.proofs.Common.{lit<, lit≤};
 ghost use Rattle.kinds.specs.Each.{each};
 ghost use Rattle.kinds.specs.RemaindersLemmas.{lawful_remainders};
 
+use super::Code;
 use super::points::Reciprocals;
-use super::{Code, Kind, modular, points};
+use super::remainders::{Modulus, Remainders};
+use std::marker::PhantomData;
 
-const SIZE: Code = 31;
-
-const UNIT: Code = 1;
-
-const RECIPROCALS: Reciprocals = [
+static RECIPROCALS: Reciprocals = [
     [0, 30, 15, 10, 23, 6, 5, 22, 27, 24],
     [1, 0, 30, 15, 10, 23, 6, 5, 22, 27],
     [16, 1, 0, 30, 15, 10, 23, 6, 5, 22],
@@ -26,40 +24,26 @@ const RECIPROCALS: Reciprocals = [
     [7, 4, 9, 26, 25, 8, 21, 16, 1, 0],
 ];
 
-// Remainders by 31, to follow by hand.
+// The modulus 31.
 #[derive(Clone, Copy)]
-pub struct Small;
+pub struct By31;
 
-impl Kind for Small {
-    ghost ops = { remainders 31 small_table };
+impl Modulus for By31 {
+    ghost SIZE = { 31 };
+
+    ghost table = { small_table };
 
     ghost lawful = { unfold each in lawful_remainders 31 (lit< tt) (lit≤ tt) small_table refl };
 
-    fn size() -> Code {
-        SIZE
-    }
+    const SIZE: Code = 31;
 
-    fn sum(a: Code, b: Code) -> Code {
-        modular::sum(SIZE, a, b)
-    }
-
-    fn negative(a: Code) -> Code {
-        modular::negative(SIZE, a)
-    }
-
-    fn product(a: Code, b: Code) -> Code {
-        modular::product(SIZE, a, b)
-    }
-
-    fn unit() -> Code {
-        UNIT
-    }
-
-    fn point(i: u32) -> Code {
-        points::point(i)
-    }
-
-    fn reciprocal(i: u32, j: u32) -> Code {
-        points::at(&RECIPROCALS, i, j)
+    fn reciprocals() -> &'static Reciprocals {
+        &RECIPROCALS
     }
 }
+
+// Remainders by 31, to follow by hand.
+pub type Small = Remainders<By31>;
+
+// The kind as a value.
+pub const Small: Small = Remainders(PhantomData);

@@ -6,14 +6,12 @@ ghost use Rattle.std.proofs.Common.{lit<, lit≤};
 ghost use Rattle.kinds.specs.Each.{each};
 ghost use Rattle.kinds.specs.RemaindersLemmas.{lawful_remainders};
 
+use super::Code;
 use super::points::Reciprocals;
-use super::{Code, Kind, modular, points};
+use super::remainders::{Modulus, Remainders};
+use std::marker::PhantomData;
 
-const SIZE: Code = 2147483647;
-
-const UNIT: Code = 1;
-
-const RECIPROCALS: Reciprocals = [
+static RECIPROCALS: Reciprocals = [
     [
         0, 2147483646, 1073741823, 715827882, 1610612735, 1288490188, 357913941, 306783378,
         1879048191, 238609294,
@@ -56,40 +54,26 @@ const RECIPROCALS: Reciprocals = [
     ],
 ];
 
-// Remainders by 2,147,483,647, for hours and costs.
+// The modulus 2,147,483,647.
 #[derive(Clone, Copy)]
-pub struct Wide;
+pub struct By2147483647;
 
-impl Kind for Wide {
-    ghost ops = { remainders 2147483647 wide_table };
+impl Modulus for By2147483647 {
+    ghost SIZE = { 2147483647 };
+
+    ghost table = { wide_table };
 
     ghost lawful = { unfold each in lawful_remainders 2147483647 (lit< tt) (lit≤ tt) wide_table refl };
 
-    fn size() -> Code {
-        SIZE
-    }
+    const SIZE: Code = 2147483647;
 
-    fn sum(a: Code, b: Code) -> Code {
-        modular::sum(SIZE, a, b)
-    }
-
-    fn negative(a: Code) -> Code {
-        modular::negative(SIZE, a)
-    }
-
-    fn product(a: Code, b: Code) -> Code {
-        modular::product(SIZE, a, b)
-    }
-
-    fn unit() -> Code {
-        UNIT
-    }
-
-    fn point(i: u32) -> Code {
-        points::point(i)
-    }
-
-    fn reciprocal(i: u32, j: u32) -> Code {
-        points::at(&RECIPROCALS, i, j)
+    fn reciprocals() -> &'static Reciprocals {
+        &RECIPROCALS
     }
 }
+
+// Remainders by 2,147,483,647, for hours and costs.
+pub type Wide = Remainders<By2147483647>;
+
+// The kind as a value.
+pub const Wide: Wide = Remainders(PhantomData);

@@ -15,9 +15,3 @@ step i j r e h =
 
 pub loop-i-preserved : goal.loop-i-preserved
 loop-i-preserved c = step c.loop-i.i (c.loop-i.i - 1) c.loop-i.r (omega arith) (omega arith) ∙ c.loop-i.invariant
-
-pub returns : goal.returns
-unfolding reduced
-returns c =
-    let done : 0 ≡ c.loop-i.i = omega arith in
-    ap (λ (n : ℕ). reduced n c.loop-i.r) done ∙ c.loop-i.invariant
