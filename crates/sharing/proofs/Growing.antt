@@ -11,5 +11,5 @@ pub grown_more : (o : Ops) (r before : ℕ) (now was : List ℕ) (i v : ℕ) →
     → grown o r before (drop i was) ≡ v ∷ grown o r (get_or now i 0) (drop (i + 1) was)
 grown_more o r before now was i v inside left e =
     at_drop_more (grown o r before) was i 0 inside
-    ∙ ap (λ c. difference o c (o.product r before) ∷ grown o r c (drop (i + 1) was)) (sym (left_here now was i left))
+    ∙ ap (λ c. difference o c (o.product r before) ∷ grown o r c (drop (i + 1) was)) (sym (left_here 0 now was i left))
     ∙ ap (λ x. x ∷ grown o r (get_or now i 0) (drop (i + 1) was)) (sym e)

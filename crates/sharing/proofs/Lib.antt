@@ -11,6 +11,7 @@ pub mod Fitting
 pub mod Admitted
 pub mod Promises
 pub mod Dividing
+pub mod Folds
 pub mod Growing
 pub mod InPlace
 pub mod Scans

@@ -1,46 +1,52 @@
--- The steps of the loop that recombines, from the end of the lists to their start. Assumes nothing.
-use Rattle.std.proofs.Common.{◌≡◌, ℕ, suc, ◌+◌, ◌-◌, ◌<◌, ◌≤◌, min, List, [], ◌∷◌, map, length, get_or, drop, sym, refl, ap, ◌∙◌, ap₂, ⊎_elim, arith}
-use Rattle.std.proofs.lemmas.List.{drop_more, drop_all, ext_get_or}
+-- What the code adds up and multiplies along a list, as the definitions compute it. Assumes nothing.
+use Rattle.std.proofs.Common.{◌≡◌, ℕ, ◌+◌, ◌<◌, List, [], ◌∷◌, map, length, get_or, reverse, zip, fold, refl, sym, ap, ◌∙◌, ◌==◌, arith}
+use Rattle.std.proofs.lemmas.List.{reverse-append, ext_get_or}
 use Rattle.std.proofs.lemmas.List.FromFn.{length-map-range_with_len, get_or-map-range_with_len}
-use Rattle.std.proofs.lemmas.Bool.{cases_lt}
-use Rattle.kinds.specs.Kind.{Ops}
-use Rattle.std.specs.List.{range_with_len}
-use Rattle.sharing.specs.Shares.{seats_to, weight_part, weight_among, weighed}
+use Rattle.std.proofs.lemmas.List.Sums.{fold-append}
+use Rattle.std.proofs.lemmas.Bool.{cond_both}
+use Rattle.kinds.specs.Kind.{Ops, Lawful}
+use Rattle.sharing.proofs.Crossing.{weighed_below}
+use Rattle.sharing.specs.Shares.{seats_to, value_at, weight_part, weight_among, weighed}
 
-none_left : (o : Ops) (ws : List ℕ) → weighed o ws [] ≡ 0
-none_left o [] = refl
-none_left o (w ∷ ws) = refl
+-- the value of a polynomial, from its last coefficient to its first
+pub fold-value_at : (o : Ops) (cs : List ℕ) (x : ℕ) → fold (λ tail c. o.sum c (o.product x tail)) 0 (reverse cs) ≡ value_at o cs x
+fold-value_at o [] x = refl
+fold-value_at o (c ∷ cs) x =
+    let f : ℕ → ℕ → ℕ = λ tail d. o.sum d (o.product x tail) in
+    ap (fold f 0) (reverse-append (c ∷ []) cs) ∙ fold-append f 0 (reverse cs) (c ∷ []) ∙ ap (λ tail. o.sum c (o.product x tail)) (fold-value_at o cs x)
 
-pub weighed_end : (o : Ops) (ws cs : List ℕ) (n : ℕ) → n ≡ min (length ws) (length cs) → 0 ≡ weighed o (drop n ws) (drop n cs)
-weighed_end o ws cs n e =
-    ⊎_elim (λ (h : length cs < length ws). sym (ap (weighed o (drop n ws)) (drop_all n cs (omega arith)) ∙ none_left o (drop n ws)))
-    (λ (h : length ws ≤ length cs). sym (ap (λ r. weighed o r (drop n cs)) (drop_all n ws (omega arith)))) (cases_lt (length cs) (length ws))
+module _ (o : Ops) (L : Lawful o) where
+  none_below : 0 < o.size
+  none_below = omega (arith, L.size_low)
 
-pub weighed_step : (o : Ops) (ws cs : List ℕ) (i total : ℕ) → 0 < i → i ≤ length ws → i ≤ length cs → total ≡ weighed o (drop i ws) (drop i cs)
-    → o.sum (o.product (get_or ws (i - 1) 0) (get_or cs (i - 1) 0)) total ≡ weighed o (drop (i - 1) ws) (drop (i - 1) cs)
-weighed_step o ws cs i total pos hw hc e =
-    let back : i - 1 + 1 ≡ i = omega arith in
-    let part : ℕ = o.product (get_or ws (i - 1) 0) (get_or cs (i - 1) 0) in
-    ap (o.sum part) (e ∙ ap (λ j. weighed o (drop j ws) (drop j cs)) (sym back))
-    ∙ sym (ap₂ (weighed o) (drop_more ws (i - 1) 0 (omega arith)) (drop_more cs (i - 1) 0 (omega arith)))
+  -- the total of the products, from t on
+  total_from : (ws cs : List ℕ) (t : ℕ) → t < o.size → fold (λ total (p : ℕ × ℕ). o.sum total (o.product p.0 p.1)) t (zip ws cs) ≡ o.sum t (weighed o ws cs)
+  total_from [] cs t h = sym (L.sum_zero t h)
+  total_from (w ∷ ws) [] t h = sym (L.sum_zero t h)
+  total_from (w ∷ ws) (c ∷ cs) t h =
+      total_from ws cs (o.sum t (o.product w c)) (L.sum_below t (o.product w c))
+      ∙ L.sum_assoc t (o.product w c) (weighed o ws cs) h (L.product_below w c) (weighed_below o L ws cs)
 
--- ---- the loop that makes a weight, from the last seat to the first
+  pub fold-weighed : (ws cs : List ℕ) → fold (λ total (p : ℕ × ℕ). o.sum total (o.product p.0 p.1)) 0 (zip ws cs) ≡ weighed o ws cs
+  fold-weighed ws cs =
+      total_from ws cs 0 none_below ∙ L.sum_comm 0 (weighed o ws cs) none_below (weighed_below o L ws cs) ∙ L.sum_zero (weighed o ws cs) (weighed_below o L ws cs)
 
-pub weight_start : (o : Ops) (n j seat : ℕ) → j ≡ suc n → o.unit ≡ weight_among o (range_with_len j (suc n - j)) seat
-weight_start o n j seat e = let none : 0 ≡ suc n - j = omega arith in ap (λ m. weight_among o (range_with_len j m) seat) none
+  part_below : (i j : ℕ) → weight_part o i j < o.size
+  part_below i j = cond_both (i == j) _ _ (λ p. p < o.size) (λ e. L.unit_below) (λ e. L.product_below _ _)
 
-pub weight_step : (o : Ops) (n j seat w : ℕ) → 0 < j → j ≤ suc n → w ≡ weight_among o (range_with_len j (suc n - j)) seat
-    → o.product (weight_part o seat (j - 1)) w ≡ weight_among o (range_with_len (j - 1) (suc n - (j - 1))) seat
-weight_step o n j seat w pos high e =
-    let next : j ≡ j - 1 + 1 = omega arith in
-    let more : suc (suc n - j) ≡ suc n - (j - 1) = omega arith in
-    ap (o.product (weight_part o seat (j - 1))) (e ∙ ap (λ i. weight_among o (range_with_len i (suc n - j)) seat) next)
-    ∙ ap (λ m. weight_among o (range_with_len (j - 1) m) seat) more
+  weight_below : (js : List ℕ) (i : ℕ) → weight_among o js i < o.size
+  weight_below [] i = L.unit_below
+  weight_below (j ∷ js) i = L.product_below (weight_part o i j) (weight_among o js i)
 
-pub weight_end : (o : Ops) (n j seat w : ℕ) → j ≡ 1 → w ≡ weight_among o (range_with_len j (suc n - j)) seat → w ≡ weight_among o (seats_to n) seat
-weight_end o n j seat w one e =
-    let all : suc n - j ≡ n = omega arith in
-    e ∙ ap₂ (λ i m. weight_among o (range_with_len i m) seat) one all
+  -- the product of the parts, from w on
+  weight_from : (js : List ℕ) (i w : ℕ) → w < o.size → fold (λ weight j. o.product weight (weight_part o i j)) w js ≡ o.product w (weight_among o js i)
+  weight_from [] i w h = sym (L.product_comm w o.unit h L.unit_below ∙ L.unit_times w h)
+  weight_from (j ∷ js) i w h =
+      weight_from js i (o.product w (weight_part o i j)) (L.product_below w (weight_part o i j))
+      ∙ L.product_assoc w (weight_part o i j) (weight_among o js i) h (part_below i j) (weight_below js i)
+
+  pub fold-weight_among : (js : List ℕ) (i : ℕ) → fold (λ weight j. o.product weight (weight_part o i j)) o.unit js ≡ weight_among o js i
+  fold-weight_among js i = weight_from js i o.unit L.unit_below ∙ L.unit_times (weight_among o js i) (weight_below js i)
 
 -- a list that has f at each seat 1 to n
 pub filled_seats : (f : ℕ → ℕ) (xs : List ℕ) (n : ℕ) → length xs ≡ n → ((k : ℕ) → k < n → get_or xs k 0 ≡ f (k + 1)) → xs ≡ map f (seats_to n)

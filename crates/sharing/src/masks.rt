@@ -4,6 +4,7 @@ ghost use Rattle.sharing.specs.Masks.{grown, mask_of};
 ghost use Rattle.sharing.specs.Promises.{Masks, Hides};
 
 use kinds::{Code, Kind};
+use std::mem::replace;
 
 // Multiplies the polynomial 1 + c_1 × x + .., whose coefficients after the constant stand in the strip,
 // by 1 - r × x, and cuts it to the strip's length.
@@ -11,10 +12,9 @@ fn grow<K: Kind>(r: Code, strip: &mut [Code])
     ensures { strip.new ≡ grown K.Kind.ops r K.Kind.ops.unit strip.old }
 {
     let mut before = K::unit();
-    for i in 0..strip.len() {
-        let code = strip[i];
-        strip[i] = K::sum(code, K::negative(K::product(r, before)));
-        before = code;
+    for code in strip.iter_mut() {
+        let grown = K::sum(*code, K::negative(K::product(r, before)));
+        before = replace(code, grown);
     }
 }
 
@@ -27,7 +27,7 @@ pub fn mask<K: Kind>(group: &[u32], strip: &mut [Code])
     ensures hides { Hides K.Kind.ops }
 {
     strip.fill(0);
-    for seat in group {
-        grow::<K>(K::reciprocal(*seat, 0), strip);
+    for &seat in group {
+        grow::<K>(K::reciprocal(seat, 0), strip);
     }
 }

@@ -15,10 +15,10 @@ pub fn share<K: Kind>(figure: Code, strip: &[Code], seat: u32) -> Code
     ensures { result ≡ share_at K.Kind.ops figure strip.now seat }
 {
     let x = K::point(seat);
-    let mut tail = 0;
-    for c in strip.iter().rev() {
-        tail = K::sum(*c, K::product(x, tail));
-    }
+    let tail = strip
+        .iter()
+        .rev()
+        .fold(0, |tail, code| K::sum(*code, K::product(x, tail)));
     K::sum(figure, K::product(x, tail))
 }
 
@@ -30,11 +30,10 @@ pub fn recombine<K: Kind>(weights: &[Code], codes: &[Code]) -> Code
     ensures recombines { Recombines K.Kind.ops }
     ensures multiplies { Multiplies K.Kind.ops }
 {
-    let mut total = 0;
-    for i in (0..weights.len().min(codes.len())).rev() {
-        total = K::sum(K::product(weights[i], codes[i]), total);
-    }
-    total
+    weights.iter().zip(codes).fold(
+        0,
+        |total, (weight, code)| K::sum(total, K::product(*weight, *code)),
+    )
 }
 
 // The part that seat j has in the weight of seat i.
@@ -48,16 +47,15 @@ fn weight_part<K: Kind>(i: u32, j: u32) -> Code
     }
 }
 
-// The weight of a seat among seats 1 to n.
+// The weight of a seat among seats 1 to n, a number that has no type of its own to keep it at most nine.
 fn weight<K: Kind>(n: u32, seat: u32) -> Code
     requires { n ≤ most_seats }
     ensures { result ≡ weight_among K.Kind.ops (seats_to n) seat }
 {
-    let mut weight = K::unit();
-    for j in (1..n + 1).rev() {
-        weight = K::product(weight_part::<K>(seat, j), weight);
-    }
-    weight
+    (1..n + 1).fold(
+        K::unit(),
+        |weight, j| K::product(weight, weight_part::<K>(seat, j)),
+    )
 }
 
 // The list takes the weights of seats 1 to n, where n is its length, at most 9. The weights of n seats
@@ -66,12 +64,12 @@ pub fn weigh<K: Kind>(list: &mut [Code]) -> Result<(), Refusal>
     ensures answer { result ≡ refuse_if (nat_lt most_seats (length list.old)) Refusal.Limits (Ok tt) }
     ensures written { list.new ≡ (if ltb most_seats (length list.old) then list.old else weights_of K.Kind.ops (length list.old)) }
 {
-    let n = list.len();
-    if n > MOST_SEATS {
+    if list.len() > MOST_SEATS {
         return Err(Refusal::Limits);
     }
-    for i in 0..n {
-        list[i] = weight::<K>(n as u32, i as u32 + 1);
+    let n = list.len() as u32;
+    for (i, entry) in list.iter_mut().enumerate() {
+        *entry = weight::<K>(n, i as u32 + 1);
     }
     Ok(())
 }

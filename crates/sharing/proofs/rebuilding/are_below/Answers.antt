@@ -1,13 +1,12 @@
-use Rattle.std.proofs.Common.{get_or, arith}
-use Rattle.sharing.specs.Rebuilding.{all_below}
-use Rattle.sharing.proofs.Scans.{passed, failed, ended, below_passes, below_fails}
+use Rattle.std.proofs.Common.{◌∙◌, nat_lt}
+use Rattle.std.proofs.lemmas.Iterator.{YieldsList-from_slice}
+use Rattle.std.proofs.lemmas.Iterator.Search.{all_from_yields_List}
+use Rattle.sharing.proofs.Scans.{list_all-all_below}
 use Rattle.sharing.proofs.rebuilding.are_below.Goals as goal
-
-pub returns-then-code-size : goal.returns-then-code-size
-returns-then-code-size c = failed 0 (all_below c.args.size) c.args.codes.now c.loop-code.code-index c.loop-code-test.true c.loop-code.invariant (below_fails c.args.size (get_or c.args.codes.now c.loop-code.code-index 0) _ (omega arith))
-
-pub loop-code-preserved : goal.loop-code-preserved
-loop-code-preserved c = passed 0 (all_below c.args.size) c.args.codes.now c.loop-code.code-index c.loop-code-test.true c.loop-code.invariant (below_passes c.args.size (get_or c.args.codes.now c.loop-code.code-index 0) _ (omega arith))
+use borrow.Author.Tests.{tests}
+use Rattle.std.proofs.Common.{rules}
 
 pub returns : goal.returns
-returns c = ended (all_below c.args.size) c.args.codes.now c.loop-code.code-index c.loop-code-test.false c.loop-code.invariant
+returns c =
+    all_from_yields_List (λ x. nat_lt x c.args.size) _ _ _ c.all.ensures.ran (YieldsList-from_slice c.args.codes.now cc) (λ x b q k. search (rules, tests))
+    ∙ list_all-all_below c.args.size c.args.codes.now

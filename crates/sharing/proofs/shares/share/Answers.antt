@@ -1,16 +1,12 @@
-use Rattle.std.proofs.Common.{◌≡◌, [], ◌∷◌, ◌++◌, sym, ap, ◌∙◌, append_assoc}
-use Rattle.std.proofs.lemmas.List.{nil_from_length}
+use Rattle.std.proofs.Common.{◌≡◌, reverse, fold, ◌∙◌, rules}
+use Rattle.std.proofs.iter.runs.Made.{chains}
+use Rattle.sharing.proofs.Weighing.{fold-value_at}
 use Rattle.sharing.proofs.shares.share.Goals as goal
-
-pub loop-c-preserved : goal.loop-c-preserved
-loop-c-preserved g c =
-    let past = c.loop-c.invariant.0 in
-    let code = c.in-Some.c.now in
-    (code ∷ past, sym (append_assoc _ (code ∷ []) past) ∙ ap (λ r. r ++ past) (sym c.in-Some.ensures.steps) ∙ c.loop-c.invariant.1, cc c.loop-c.invariant.2)
 
 pub returns : goal.returns
 returns g c =
-    let past = c.loop-c.invariant.0 in
-    let done : past ≡ c.args.strip.now = ap (λ r. r ++ past) (sym (nil_from_length _ c.in-None.ensures.steps.0)) ∙ c.loop-c.invariant.1 in
-    let value = c.loop-c.invariant.2 in
+    let o = g.K.Kind.ops in
+    let x = c.point-x.result in
+    let folded : c.fold-tail.result ≡ fold (λ tail code. o.sum code (o.product x tail)) 0 (reverse c.args.strip.now) = search (rules, chains) in
+    let tail = folded ∙ fold-value_at o c.args.strip.now x in
     cc

@@ -1,16 +1,13 @@
-use Rattle.std.proofs.Common.{ap, ◌∙◌, arith}
-use Rattle.sharing.proofs.Weighing.{weight_start, weight_step, weight_end}
+use Rattle.std.proofs.Common.{◌+◌, refl, ◌∙◌, rules, arith}
+use Rattle.std.proofs.lemmas.Iterator.{YieldsList-from_range}
+use Rattle.sharing.specs.Shares.{weight_part, seats_to}
+use Rattle.sharing.proofs.Folds.{fold_by}
+use Rattle.sharing.proofs.Weighing.{fold-weight_among}
 use Rattle.sharing.proofs.shares.weight.Goals as goal
 
-pub loop-j-init : goal.loop-j-init
-loop-j-init g c = (omega arith, c.unit-weight.ensures ∙ weight_start g.K.Kind.ops c.args.n _ c.args.seat (omega arith))
-
-pub loop-j-preserved : goal.loop-j-preserved
-loop-j-preserved g c = (
-  omega arith,
-  c.product-weight.ensures ∙ ap (λ part. g.K.Kind.ops.product part c.loop-j.weight) c.weight_part.ensures
-      ∙ weight_step g.K.Kind.ops c.args.n c.loop-j.j c.args.seat c.loop-j.weight (omega arith) (omega arith) c.loop-j.invariant.1,
-)
-
 pub returns : goal.returns
-returns g c = weight_end g.K.Kind.ops c.args.n c.loop-j.j c.args.seat c.loop-j.weight (omega arith) c.loop-j.invariant.1
+returns g c =
+    let o = g.K.Kind.ops in
+    let seats = YieldsList-from_range 1 (c.args.n + 1) c.args.n refl (omega arith) in
+    fold_by (λ weight j. o.product weight (weight_part o c.args.seat j)) _ (λ a x b f' k. search rules) seats c.unit.result c.fold.result c.fold.ensures.ran
+    ∙ rw c.unit.ensures (fold-weight_among o g.met.K.Kind.lawful (seats_to c.args.n) c.args.seat)
