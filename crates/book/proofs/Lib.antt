@@ -1,4 +1,2 @@
 pub mod Answering
 pub mod Filling
-pub mod Gathering
-pub mod Listing

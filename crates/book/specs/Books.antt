@@ -1,6 +1,7 @@
 -- A book's pages, set or unset: what each call answers, writes and leaves. Assumes nothing.
-use Rattle.std.specs.Prelude.{ℕ, List, Some, None, Ok, Err, Result}
+use Rattle.std.specs.Prelude.{◌≡◌, ℕ, ◌≤◌, List, Some, None, Ok, Err, Result}
 use Rattle.kinds.specs.Kind.{Ops}
+use Rattle.sharing.specs.Shares.{most_seats, weights_of}
 use Rattle.sharing.specs.declared.refusal.Refusal.{Refusal}
 use Rattle.sharing.specs.declared.refusal.Refusal.TheVariants.{Unset, AlreadySet}
 use Rattle.book.specs.Calls.{Call}
@@ -13,6 +14,11 @@ use Rattle.book.specs.declared.slate.Slate.{Slate}
 -- how many seats a book has, none while it is unset
 abbrev pub seat_count : Pages → ℕ
 seat_count p = elim p.slate [ Some s ↦ s.n | None ↦ 0 ]
+
+-- a book keeps the weights of its seats, which are at most nine
+pub record KeepsWeights (o : Ops) (p : Pages) (weights : List ℕ) : Type 0 where
+  pub few : seat_count p ≤ most_seats
+  pub those : weights ≡ weights_of o (seat_count p)
 
 -- the pages of a new book
 abbrev pub blank : Pages

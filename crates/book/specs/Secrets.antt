@@ -36,13 +36,13 @@ abbrev pub nothing_held : Secrets
 nothing_held = record { shares = replicate line_count no_codes; letters = replicate most_seats no_codes }
 
 abbrev pub with_shares : Secrets → ℕ → List ℕ → Secrets
-with_shares x r row = record { shares = slice_set x.shares r row; letters = x.letters }
+with_shares x r row = record x { shares = slice_set x.shares r row }
 
 abbrev pub with_letters : Secrets → ℕ → List ℕ → Secrets
-with_letters x sender row = record { shares = x.shares; letters = slice_set x.letters (sender - 1) row }
+with_letters x sender row = record x { letters = slice_set x.letters (sender - 1) row }
 
 abbrev pub without_letters : Secrets → Secrets
-without_letters x = record { shares = x.shares; letters = replicate most_seats no_codes }
+without_letters x = record x { letters = replicate most_seats no_codes }
 
 -- ---- what an accepted call does
 

@@ -115,16 +115,16 @@ abbrev pub fresh : ℕ → ℕ → Slate
 fresh n k = record { n = n; k = k; lines = replicate line_count Empty; hand = None; dealt = no_flags; gathered = no_flags }
 
 abbrev pub with_line : Slate → ℕ → Line → Slate
-with_line s r state = record { n = s.n; k = s.k; lines = slice_set s.lines r state; hand = s.hand; dealt = s.dealt; gathered = s.gathered }
+with_line s r state = record s { lines = slice_set s.lines r state }
 
 abbrev pub with_hand : Slate → Option Hand → Slate
-with_hand s hand = record { n = s.n; k = s.k; lines = s.lines; hand = hand; dealt = no_flags; gathered = no_flags }
+with_hand s hand = record s { hand = hand; dealt = no_flags; gathered = no_flags }
 
 abbrev pub with_dealt : Slate → ℕ → Slate
-with_dealt s seat = record { n = s.n; k = s.k; lines = s.lines; hand = s.hand; dealt = slice_set s.dealt (seat - 1) true; gathered = s.gathered }
+with_dealt s seat = record s { dealt = slice_set s.dealt (seat - 1) true }
 
 abbrev pub with_gathered : Slate → ℕ → Slate
-with_gathered s seat = record { n = s.n; k = s.k; lines = s.lines; hand = s.hand; dealt = s.dealt; gathered = slice_set s.gathered (seat - 1) true }
+with_gathered s seat = record s { gathered = slice_set s.gathered (seat - 1) true }
 
 -- After the last seat's gather the destination is full and the product is over.
 abbrev pub gathered_by : Slate → ℕ → ℕ → Slate

@@ -1,11 +1,12 @@
 // The book and its calls.
-ghost use Rattle.std.specs.Prelude.{◌≤◌};
-ghost use Rattle.sharing.specs.Shares.{most_seats};
-ghost use Rattle.book.specs.Books.{seat_count};
+ghost use Rattle.book.specs.Books.{KeepsWeights};
+ghost use Rattle.book.specs.declared.pages.Pages.{Pages as Shown};
 
 use super::Pages;
-use kinds::Kind;
-use std::marker::PhantomData;
+use arrayvec::ArrayVec;
+use kinds::{Code, Kind};
+use sharing::MOST_SEATS;
+use std::marker::{Model, PhantomData};
 
 mod calls;
 
@@ -14,5 +15,15 @@ mod calls;
 pub struct Book<K: Kind> {
     kind: PhantomData<K>,
     pages: Pages,
-    ghost few: { seat_count pages ≤ most_seats },
+    // the weights of seats 1 to n, for open and gather
+    weights: ArrayVec<Code, MOST_SEATS>,
+}
+
+// The contracts speak of a book as its pages.
+impl<K: Kind> Model for Book<K> {
+    ghost Value = { Shown };
+
+    ghost view = { λ b. b.pages };
+
+    ghost invariant = { λ b. KeepsWeights K.Kind.ops b.pages b.weights.items };
 }

@@ -1,9 +1,9 @@
 // When each call says no: the first cause in the rules' order decides, from the slate and the call alone.
-ghost use Rattle.std.specs.Prelude.{◌≡◌, None};
-ghost use Rattle.book.specs.Calls.{enter, sum, scale, begin, deal, gather, «open», show};
+ghost use Rattle.std.specs.Prelude.{◌≡◌, Some, None, MatchResult};
+ghost use Rattle.book.specs.Calls.{enter, scale, begin, deal, gather, «open», show};
 ghost use Rattle.book.specs.Slates.{why_lines, why_strip, why_set, why, allowed};
 
-use super::{LINES, SHOWN, Slate};
+use super::{Hand, LINES, SHOWN, Slate};
 use kinds::Code;
 use sharing::{LEAST_THRESHOLD, MOST_SEATS, MOST_THRESHOLD, Refusal};
 
@@ -11,7 +11,7 @@ use sharing::{LEAST_THRESHOLD, MOST_SEATS, MOST_THRESHOLD, Refusal};
 pub(crate) fn may_set(n: u32, k: u32) -> Result<(), Refusal>
     ensures { result ≡ allowed (why_set n k) }
 {
-    if k < LEAST_THRESHOLD || k > MOST_THRESHOLD {
+    if !(LEAST_THRESHOLD..=MOST_THRESHOLD).contains(&k) {
         return Err(Refusal::Limits);
     }
     if n as u64 + 1 < 2 * k as u64 || n > MOST_SEATS as u32 {
@@ -20,6 +20,7 @@ pub(crate) fn may_set(n: u32, k: u32) -> Result<(), Refusal>
     Ok(())
 }
 
+// Begin, gather, open and show take no code, so no size of a kind matters to them: they are decided at size 0.
 impl Slate {
     // Whether a strip may be shared along.
     fn may_share(&self, size: Code, strip: &[Code]) -> Result<(), Refusal>
@@ -35,7 +36,7 @@ impl Slate {
     }
 
     // Whether a line may be written from two others.
-    fn may_combine(&self, destination: u32, a: u32, b: u32) -> Result<(), Refusal>
+    pub(crate) fn may_combine(&self, destination: u32, a: u32, b: u32) -> Result<(), Refusal>
         ensures { result ≡ allowed (why_lines self.now destination a b None) }
     {
         if destination as usize >= LINES || a as usize >= LINES || b as usize >= LINES {
@@ -75,18 +76,6 @@ impl Slate {
         self.may_share(size, strip)
     }
 
-    pub(crate) fn may_sum(
-        &self,
-        size: Code,
-        destination: u32,
-        a: u32,
-        b: u32,
-    ) -> Result<(), Refusal>
-        ensures { result ≡ allowed (why size self.now (sum destination a b)) }
-    {
-        self.may_combine(destination, a, b)
-    }
-
     pub(crate) fn may_scale(
         &self,
         size: Code,
@@ -103,42 +92,37 @@ impl Slate {
         Ok(())
     }
 
-    pub(crate) fn may_begin(
-        &self,
-        size: Code,
-        destination: u32,
-        a: u32,
-        b: u32,
-    ) -> Result<(), Refusal>
-        ensures { result ≡ allowed (why size self.now (begin destination a b)) }
+    pub(crate) fn may_begin(&self, destination: u32, a: u32, b: u32) -> Result<(), Refusal>
+        ensures { result ≡ allowed (why 0 self.now (begin destination a b)) }
     {
-        if let Some(_) = self.hand {
+        if self.hand.is_some() {
             return Err(Refusal::InHand);
         }
         self.may_combine(destination, a, b)
     }
 
-    pub(crate) fn may_deal(&self, size: Code, seat: u32, strip: &[Code]) -> Result<(), Refusal>
-        ensures { result ≡ allowed (why size self.now (deal seat strip.now)) }
+    // The product in hand, if the seat may deal.
+    pub(crate) fn may_deal(&self, size: Code, seat: u32, strip: &[Code]) -> Result<Hand, Refusal>
+        ensures { let cause = why size self.now (deal seat strip.now) in
+            MatchResult result (λ hand. (self.now.hand ≡ Some hand) × (cause ≡ None)) (λ refusal. cause ≡ Some refusal) }
     {
-        let None = self.hand else {
-            if self.has_no_seat(seat) {
-                return Err(Refusal::NoSeat);
-            }
-            if self.has_dealt(seat) {
-                return Err(Refusal::Dealt);
-            }
-            return self.may_share(size, strip);
-        };
-        Err(Refusal::NoneInHand)
+        let hand = self.hand.ok_or(Refusal::NoneInHand)?;
+        if self.has_no_seat(seat) {
+            return Err(Refusal::NoSeat);
+        }
+        if self.has_dealt(seat) {
+            return Err(Refusal::Dealt);
+        }
+        self.may_share(size, strip)?;
+        Ok(hand)
     }
 
-    pub(crate) fn may_gather(&self, size: Code, seat: u32) -> Result<(), Refusal>
-        ensures { result ≡ allowed (why size self.now (gather seat)) }
+    // The product in hand, if the seat may gather.
+    pub(crate) fn may_gather(&self, seat: u32) -> Result<Hand, Refusal>
+        ensures { let cause = why 0 self.now (gather seat) in
+            MatchResult result (λ hand. (self.now.hand ≡ Some hand) × (cause ≡ None)) (λ refusal. cause ≡ Some refusal) }
     {
-        let Some(_) = self.hand else {
-            return Err(Refusal::NoneInHand);
-        };
+        let hand = self.hand.ok_or(Refusal::NoneInHand)?;
         if self.has_no_seat(seat) {
             return Err(Refusal::NoSeat);
         }
@@ -148,11 +132,11 @@ impl Slate {
         if self.has_gathered(seat) {
             return Err(Refusal::Gathered);
         }
-        Ok(())
+        Ok(hand)
     }
 
-    pub(crate) fn may_open(&self, size: Code, line: u32, room: usize) -> Result<(), Refusal>
-        ensures { result ≡ allowed (why size self.now («open» line room)) }
+    pub(crate) fn may_open(&self, line: u32, room: usize) -> Result<(), Refusal>
+        ensures { result ≡ allowed (why 0 self.now («open» line room)) }
     {
         if line as usize >= LINES {
             return Err(Refusal::NoLine);
@@ -166,8 +150,8 @@ impl Slate {
         Ok(())
     }
 
-    pub(crate) fn may_show(&self, size: Code, seat: u32, room: usize) -> Result<(), Refusal>
-        ensures { result ≡ allowed (why size self.now (show seat room)) }
+    pub(crate) fn may_show(&self, seat: u32, room: usize) -> Result<(), Refusal>
+        ensures { result ≡ allowed (why 0 self.now (show seat room)) }
     {
         if self.has_no_seat(seat) {
             return Err(Refusal::NoSeat);

@@ -2,11 +2,11 @@
 #![tactic(auto)]
 
 mod book;
-mod cells;
 mod deciding;
 mod lists;
 mod marking;
 mod pages;
+mod places;
 mod rows;
 mod secrets;
 mod slate;

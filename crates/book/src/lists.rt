@@ -1,97 +1,77 @@
 // The lists that calls write, and what is weighed of them.
-ghost use Rattle.std.specs.Prelude.{◌≡◌, ◌+◌, ◌*◌, ◌<◌, ◌≤◌, map, length};
-ghost use Rattle.std.proofs.lemmas.List.Edits.{sets};
-ghost use Rattle.std.specs.List.{range_with_len, flat_map};
-ghost use Rattle.sharing.specs.Shares.{most_seats, seats_to, weights_of, weighed};
-ghost use Rattle.book.specs.Secrets.{share_held, letter_held, gathered_share, opened, entry_if, shown};
-ghost use Rattle.book.specs.Slates.{line_count, show_count, flag, holds_share};
+ghost use Rattle.std.specs.Prelude.{◌≡◌, ◌≤◌, true, false, MatchOption, length, map};
+ghost use Rattle.sharing.specs.Shares.{most_seats, seats_to, weighed};
+ghost use Rattle.book.specs.Secrets.{share_held, letter_held, opened, entry_if, shown};
+ghost use Rattle.book.specs.Slates.{show_count, flag, holds_share};
 
-use super::{LINES, SHOWN, Secrets, Slate};
+use super::{LINES, SHOWN, Secrets, Slate, places, rows};
+use arrayvec::ArrayVec;
 use kinds::{Code, Kind};
 use sharing::MOST_SEATS;
 
 // How many of show's entries are for lines; the others are for letters.
 const SHARES_SHOWN: usize = 2 * LINES;
 
-// The list takes the shares of seats 1 to n of line r, where n is its length.
-pub(crate) fn open_line(secrets: &Secrets, r: u32, list: &mut [Code])
-    requires { length list.old ≤ most_seats }
-    ensures { list.new ≡ opened (length list.old) secrets.now r }
+// The two entries for a code: 1 and the code, or 0 and 0 where there is none.
+fn entries(code: Option<Code>) -> [Code; 2]
+    ensures { MatchOption code (result ≡ entry_if false 0) (λ c. result ≡ entry_if true c) }
 {
-    for i in 0..list.len() {
-        list[i] = secrets.share_of(i as u32 + 1, r);
+    match code {
+        Some(code) => [1, code],
+        None => [0, 0],
     }
 }
 
-// The list takes the letters to a seat from seats 1 to n, where n is its length.
-pub(crate) fn letters_to(secrets: &Secrets, seat: u32, list: &mut [Code])
-    requires { length list.old ≤ most_seats }
-    ensures { list.new ≡ map (letter_held secrets.now seat) (seats_to (length list.old)) }
-{
-    for i in 0..list.len() {
-        list[i] = secrets.letter_to(seat, i as u32 + 1);
+impl Secrets {
+    // The list takes the shares of seats 1 to n of line r, where n is its length. That n is at most nine is asked of the list,
+    // since it is lent and has no type of its own that could keep it.
+    pub(crate) fn open_line(&self, r: u32, list: &mut [Code])
+        requires { length list.old ≤ most_seats }
+        ensures { list.new ≡ opened (length list.old) self.now r }
+    {
+        let n = list.len();
+        let shares = rows::fill(n as u32, |seat| self.share_of(seat, r));
+        list.copy_from_slice(&shares[..n]);
     }
-}
 
-// The codes of seats 1 to n, weighed.
-pub(crate) fn weigh_up<K: Kind>(codes: &[Code]) -> Code
-    requires { length codes.now ≤ most_seats }
-    ensures { result ≡ weighed K.Kind.ops (weights_of K.Kind.ops (length codes.now)) codes.now }
-{
-    let mut weights = [0; MOST_SEATS];
-    let weights = &mut weights[0..codes.len()];
-    let _ = sharing::weigh::<K>(weights);
-    sharing::recombine::<K>(weights, codes)
-}
-
-// A seat's share of the product in hand: the letters to it from seats 1 to n, weighed.
-pub(crate) fn gathered_share<K: Kind>(n: u32, secrets: &Secrets, seat: u32) -> Code
-    requires { n ≤ most_seats }
-    ensures { result ≡ gathered_share K.Kind.ops n secrets.now seat }
-{
-    let mut letters = [0; MOST_SEATS];
-    let letters = &mut letters[0..n as usize];
-    letters_to(secrets, seat, letters);
-    weigh_up::<K>(letters)
-}
-
-// Entries 2i and 2i + 1 of the list: 1 and the code, or 0 and 0 where it is not there.
-fn put_pair(list: &mut [Code], i: usize, is_there: bool, code: Code)
-    requires { 2 * i + 1 < length list.old }
-    ensures { list.new ≡ sets list.old (2 * i) (entry_if is_there code) }
-{
-    list[2 * i] = if is_there { 1 } else { 0 };
-    list[2 * i + 1] = if is_there { code } else { 0 };
-}
-
-// Two entries for each line: 1 and the seat's share, or 0 and 0 where it holds none.
-fn show_lines(slate: &Slate, secrets: &Secrets, seat: u32, list: &mut [Code])
-    requires { length list.old ≡ 2 * line_count }
-    ensures { list.new ≡ flat_map (λ r. entry_if (holds_share slate.now seat r) (share_held secrets.now seat r)) (range_with_len 0 line_count) }
-{
-    for r in 0..LINES {
-        let held = slate.holds_share(seat, r as u32);
-        put_pair(list, r, held, secrets.share_of(seat, r as u32));
+    // A seat's share of the product in hand: the letters to it from seats 1 to n, weighed by the n weights.
+    pub(crate) fn gathered_share<K: Kind>(
+        &self,
+        weights: &ArrayVec<Code, MOST_SEATS>,
+        seat: u32,
+    ) -> Code
+        ensures { result ≡ weighed K.Kind.ops weights.now.items (map (letter_held self.now seat) (seats_to (length weights.now.items))) }
+    {
+        let n = weights.len();
+        let letters = rows::fill(n as u32, |sender| self.letter_to(seat, sender));
+        sharing::recombine::<K>(weights.as_slice(), &letters[..n])
     }
-}
 
-// Two entries for each sender: 1 and its letter to the seat, or 0 and 0 where it has not dealt.
-fn show_letters(slate: &Slate, secrets: &Secrets, seat: u32, list: &mut [Code])
-    requires { length list.old ≡ 2 * most_seats }
-    ensures { list.new ≡ flat_map (λ s. entry_if (flag slate.now.dealt s) (letter_held secrets.now seat s)) (seats_to most_seats) }
-{
-    for i in 0..MOST_SEATS {
-        let sender = i as u32 + 1;
-        let dealt = slate.has_dealt(sender);
-        put_pair(list, i, dealt, secrets.letter_to(seat, sender));
+    // The list takes all that a seat holds: its share of each line, and the letters to it.
+    pub(crate) fn show(&self, slate: &Slate, seat: u32, list: &mut [Code])
+        requires { length list.old ≡ show_count }
+        ensures { list.new ≡ shown slate.now self.now seat }
+    {
+        let shares: [[Code; 2]; LINES] = places::numbered(
+            0,
+            |r|
+                ensures { result ≡ entry_if (holds_share slate.entry.now seat r) (share_held self.entry.now seat r) }
+            {
+                let is_held = slate.holds_share(seat, r);
+                entries(is_held.then_some(self.share_of(seat, r)))
+            },
+        );
+        let letters: [[Code; 2]; MOST_SEATS] = places::numbered(
+            1,
+            |sender|
+                ensures { result ≡ entry_if (flag slate.entry.now.dealt sender) (letter_held self.entry.now seat sender) }
+            {
+                let is_dealt = slate.has_dealt(sender);
+                entries(is_dealt.then_some(self.letter_to(seat, sender)))
+            },
+        );
+        let (for_lines, for_senders) = list.split_at_mut(SHARES_SHOWN);
+        for_lines.copy_from_slice(shares.as_flattened());
+        for_senders.copy_from_slice(letters.as_flattened());
     }
-}
-
-// The list takes all that a seat holds.
-pub(crate) fn show_seat(slate: &Slate, secrets: &Secrets, seat: u32, list: &mut [Code])
-    requires { length list.old ≡ show_count }
-    ensures { list.new ≡ shown slate.now secrets.now seat }
-{
-    show_lines(slate, secrets, seat, &mut list[0..SHARES_SHOWN]);
-    show_letters(slate, secrets, seat, &mut list[SHARES_SHOWN..SHOWN]);
 }

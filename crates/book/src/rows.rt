@@ -1,48 +1,20 @@
 // Rows: a code for each seat, seat 1 first, and 0 past the last seat.
-ghost use Rattle.std.specs.Prelude.{◌≡◌, ℕ, ◌-◌, slice_set};
-ghost use Rattle.book.specs.Secrets.{at_seat, by_seat};
+ghost use Rattle.std.specs.Prelude.{◌≡◌, ℕ};
+ghost use Rattle.book.specs.Secrets.{by_seat};
 
+use super::places;
 use kinds::Code;
 use sharing::MOST_SEATS;
 
+// Nine places for any n, 0 past the last seat, and no list of n: so the definitions have it, and equal books are equal in memory.
 pub type Row = [Code; MOST_SEATS];
 
-// The code of a seat; 0 where there is none.
-pub(crate) fn at(row: &Row, seat: u32) -> Code
-    ensures { result ≡ at_seat row.now seat }
+// The row that has what a closure gives for each of seats 1 to n. Where each call gives the code of its seat, those
+// are the row.
+pub(crate) fn fill<F: Fn(u32) -> Code>(n: u32, code_of: F) -> Row
+    requires { F.IsAlwaysCallable code_of }
+    ensures { (code : ℕ → ℕ) → ((seat c : ℕ) → F.post code_of seat c → c ≡ code seat)
+        → result ≡ by_seat n code }
 {
-    let place = seat.saturating_sub(1) as usize;
-    if place < MOST_SEATS { row[place] } else { 0 }
-}
-
-// The row with another code for a seat.
-pub(crate) fn with(row: &Row, seat: u32, code: Code) -> Row
-    ensures { result ≡ slice_set row.now (seat - 1) code }
-{
-    let mut changed = *row;
-    let place = seat.saturating_sub(1) as usize;
-    if place >= MOST_SEATS {
-        return changed;
-    }
-    changed[place] = code;
-    changed
-}
-
-// What a seat gets in a call, by its number.
-pub trait Cell: Copy {
-    ghost code: { Self → ℕ → ℕ };
-
-    fn of(self, seat: u32) -> Code
-        ensures { result ≡ code self seat };
-}
-
-// The row that gives each of seats 1 to n its code.
-pub(crate) fn fill<C: Cell>(n: u32, cell: C) -> Row
-    ensures { result ≡ by_seat n (C.Cell.code cell) }
-{
-    let mut row = [0; MOST_SEATS];
-    for i in 0..MOST_SEATS.min(n as usize) {
-        row[i] = cell.of(i as u32 + 1);
-    }
-    row
+    places::numbered(1, |seat| if seat <= n { code_of(seat) } else { 0 })
 }

@@ -1,12 +1,12 @@
 // The slate, the public state: all that anyone may know of a book. Refusals are decided from it and the call alone.
-ghost use Rattle.std.specs.Prelude.{◌≡◌, take, slice_index_or};
+ghost use Rattle.std.specs.Prelude.{◌≡◌, take};
 ghost use Rattle.book.specs.Slates.{state_of, is_empty, is_full, flag, holds_share, all_set, no_seat};
 
-use super::LINES;
+use super::{LINES, places};
 use sharing::MOST_SEATS;
 
 // The state of a line.
-#[derive(Clone, Copy)]
+#[derive(Clone, Copy, PartialEq, Eq)]
 pub enum Line {
     // nothing was written
     Empty,
@@ -32,60 +32,31 @@ pub struct Slate {
     pub k: u32,
     pub lines: [Line; LINES],
     pub hand: Option<Hand>,
-    // which seats have dealt and gathered in the product in hand, seat 1 first
+    // Which seats have dealt and gathered in the product in hand, seat 1 first. Two lists are plainer than one of pairs,
+    // since each rule asks for one of them: whether all have dealt, and whether all have gathered.
     pub dealt: [bool; MOST_SEATS],
     pub gathered: [bool; MOST_SEATS],
-}
-
-// The state of line r; empty where there is no such line.
-fn state(lines: &[Line; LINES], r: u32) -> Line
-    ensures { result ≡ slice_index_or lines.now r Line.Empty }
-{
-    if (r as usize) < LINES {
-        lines[r as usize]
-    } else {
-        Line::Empty
-    }
-}
-
-// The flag of a seat; not set where there is no such seat.
-fn is_set(flags: &[bool; MOST_SEATS], seat: u32) -> bool
-    ensures { result ≡ flag flags.now seat }
-{
-    let place = seat.saturating_sub(1) as usize;
-    place < MOST_SEATS && flags[place]
-}
-
-// Whether each flag is set.
-fn are_set(flags: &[bool]) -> bool
-    ensures { result ≡ all_set flags.now }
-{
-    for set in flags {
-        if !*set {
-            return false;
-        }
-    }
-    true
 }
 
 // Whether each of the first n flags is set.
 pub(crate) fn first_set(flags: &[bool; MOST_SEATS], n: u32) -> bool
     ensures { result ≡ all_set (take n flags.now) }
 {
-    are_set(&flags[0..MOST_SEATS.min(n as usize)])
+    flags.iter().take(n as usize).all(|set| *set)
 }
 
+// What the rules ask of a slate, in their words. Each is one call of what they share.
 impl Slate {
     pub(crate) fn has_dealt(&self, seat: u32) -> bool
         ensures { result ≡ flag self.now.dealt seat }
     {
-        is_set(&self.dealt, seat)
+        places::at(&self.dealt, places::of_seat(seat), false)
     }
 
     pub(crate) fn has_gathered(&self, seat: u32) -> bool
         ensures { result ≡ flag self.now.gathered seat }
     {
-        is_set(&self.gathered, seat)
+        places::at(&self.gathered, places::of_seat(seat), false)
     }
 
     // The seat holds a share of line r: it is full, or awaited and the seat has gathered.
@@ -102,31 +73,25 @@ impl Slate {
     fn state(&self, r: u32) -> Line
         ensures { result ≡ state_of self.now r }
     {
-        state(&self.lines, r)
+        places::at(&self.lines, r as usize, Line::Empty)
     }
 
     pub(crate) fn has_no_seat(&self, seat: u32) -> bool
         ensures { result ≡ no_seat self.now seat }
     {
-        seat == 0 || seat > self.n
+        !(1..=self.n).contains(&seat)
     }
 
     pub(crate) fn is_empty(&self, r: u32) -> bool
         ensures { result ≡ is_empty (state_of self.now r) }
     {
-        match self.state(r) {
-            Line::Empty => true,
-            _ => false,
-        }
+        self.state(r) == Line::Empty
     }
 
     pub(crate) fn is_full(&self, r: u32) -> bool
         ensures { result ≡ is_full (state_of self.now r) }
     {
-        match self.state(r) {
-            Line::Full => true,
-            _ => false,
-        }
+        self.state(r) == Line::Full
     }
 
     // Whether each of seats 1 to n has dealt.

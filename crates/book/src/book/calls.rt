@@ -3,72 +3,55 @@ ghost use Rattle.std.specs.Prelude.{◌≡◌, ◌≤◌, length};
 ghost use Rattle.sharing.specs.Shares.{most_seats};
 ghost use Rattle.book.specs.Books.{blank, seat_count, answered, done, left, list_after, set_answered, set_left};
 ghost use Rattle.book.specs.Calls.{enter, sum, scale, begin, deal, gather, «open», show};
-ghost use Rattle.book.specs.Secrets.{gathered_in, opened, shown};
+ghost use Rattle.book.specs.Secrets.{opened, shown};
 
 use super::Book;
-use crate::cells::{Scaled, Shared, Summed};
 use crate::deciding::may_set;
-use crate::lists::{gathered_share, open_line, show_seat, weigh_up};
-use crate::{Hand, LINES, Line, Pages, Secrets, Slate, rows};
+use crate::{Hand, Line, Pages, Secrets, Slate, rows};
+use arrayvec::ArrayVec;
 use kinds::{Code, Kind};
 use sharing::{MOST_SEATS, Refusal};
 use std::marker::PhantomData;
 
-// The seat's share of the destination; after the last seat's gather the letters are cleared.
-fn gathered_in<K: Kind>(slate: &Slate, hand: Hand, secrets: &Secrets, seat: u32) -> Secrets
-    requires { slate.now.n ≤ most_seats }
-    ensures { result ≡ gathered_in K.Kind.ops slate.now hand secrets.now seat }
-{
-    let share = gathered_share::<K>(slate.n, secrets, seat);
-    let held = secrets.with_share(hand.destination, seat, share);
-    if slate.is_last(seat) {
-        held.without_letters()
-    } else {
-        held
-    }
-}
-
 impl<K: Kind> Book<K> {
     // A new book, unset.
     pub fn new() -> Book<K>
-        ensures { result.pages ≡ blank }
+        ensures { result ≡ blank }
     {
-        let shares = [[0; MOST_SEATS]; LINES];
-        let letters = [[0; MOST_SEATS]; MOST_SEATS];
-        let pages = Pages {
-            slate: None,
-            secrets: Secrets { shares, letters },
-        };
         Book {
             kind: PhantomData,
-            pages,
+            pages: Pages {
+                slate: None,
+                secrets: Secrets::empty(),
+            },
+            weights: ArrayVec::new(),
         }
     }
 
-    // How many seats the book has; none while it is unset.
+    // How many seats the book has: 0 while it is unset.
     pub fn seats(&self) -> u32
-        ensures { result ≡ seat_count self.now.pages }
+        ensures count { result ≡ seat_count self.now }
+        ensures few { result ≤ most_seats }
     {
-        match self.pages.slate {
-            Some(slate) => slate.n,
-            None => 0,
-        }
+        self.pages.slate.map_or(0, |slate| slate.n)
     }
 
     // The book is shared among n seats, of which k rebuild a figure. All lines are empty.
     pub fn set(&mut self, n: u32, k: u32) -> Result<(), Refusal>
-        ensures answer { result ≡ set_answered self.old.pages n k }
-        ensures book { self.new.pages ≡ set_left self.old.pages n k }
+        ensures answer { result ≡ set_answered self.old n k }
+        ensures book { self.new ≡ set_left self.old n k }
     {
-        if let Some(_) = self.pages.slate {
+        if self.pages.slate.is_some() {
             return Err(Refusal::AlreadySet);
         }
         may_set(n, k)?;
-        let shares = [[0; MOST_SEATS]; LINES];
-        let letters = [[0; MOST_SEATS]; MOST_SEATS];
+        let mut weights = ArrayVec::from([0; MOST_SEATS]);
+        weights.truncate(n as usize);
+        sharing::weigh::<K>(weights.as_mut_slice())?;
+        self.weights = weights;
         self.pages = Pages {
             slate: Some(Slate::fresh(n, k)),
-            secrets: Secrets { shares, letters },
+            secrets: Secrets::empty(),
         };
         Ok(())
     }
@@ -81,164 +64,119 @@ impl<K: Kind> Book<K> {
         figure: Code,
         strip: &[Code],
     ) -> Result<(), Refusal>
-        ensures answer { result ≡ done (answered K.Kind.ops self.old.pages (enter line house figure strip.now)) }
-        ensures book { self.new.pages ≡ left K.Kind.ops self.old.pages (enter line house figure strip.now) }
+        ensures answer { result ≡ done (answered K.Kind.ops self.old (enter line house figure strip.now)) }
+        ensures book { self.new ≡ left K.Kind.ops self.old (enter line house figure strip.now) }
     {
-        let Some(slate) = self.pages.slate else {
-            return Err(Refusal::Unset);
-        };
+        let Pages { slate, secrets } = &mut self.pages;
+        let slate = slate.as_mut().ok_or(Refusal::Unset)?;
         slate.may_enter(K::size(), line, house, figure, strip)?;
-        let cell = Shared::<K> {
-            kind: PhantomData,
-            value: figure,
-            strip,
-        };
-        let row = rows::fill(slate.n, cell);
-        self.pages = Pages {
-            slate: Some(slate.with_line(line, Line::Full)),
-            secrets: self.pages.secrets.with_shares(line, row),
-        };
+        let row = rows::fill(slate.n, |seat| sharing::share::<K>(figure, strip, seat));
+        slate.set_line(line, Line::Full);
+        secrets.set_shares(line, row);
         Ok(())
     }
 
     // Each seat adds its shares of a and b.
     pub fn sum(&mut self, destination: u32, a: u32, b: u32) -> Result<(), Refusal>
-        ensures answer { result ≡ done (answered K.Kind.ops self.old.pages (sum destination a b)) }
-        ensures book { self.new.pages ≡ left K.Kind.ops self.old.pages (sum destination a b) }
+        ensures answer { result ≡ done (answered K.Kind.ops self.old (sum destination a b)) }
+        ensures book { self.new ≡ left K.Kind.ops self.old (sum destination a b) }
     {
-        let Some(slate) = self.pages.slate else {
-            return Err(Refusal::Unset);
-        };
-        slate.may_sum(K::size(), destination, a, b)?;
-        let cell = Summed::<K> {
-            kind: PhantomData,
-            secrets: &self.pages.secrets,
-            a,
-            b,
-        };
-        let row = rows::fill(slate.n, cell);
-        self.pages = Pages {
-            slate: Some(slate.with_line(destination, Line::Full)),
-            secrets: self.pages.secrets.with_shares(destination, row),
-        };
+        let Pages { slate, secrets } = &mut self.pages;
+        let slate = slate.as_mut().ok_or(Refusal::Unset)?;
+        slate.may_combine(destination, a, b)?;
+        let row = rows::fill(slate.n, |seat| {
+            K::sum(secrets.share_of(seat, a), secrets.share_of(seat, b))
+        });
+        slate.set_line(destination, Line::Full);
+        secrets.set_shares(destination, row);
         Ok(())
     }
 
     // Each seat multiplies its share of a by the public constant.
     pub fn scale(&mut self, destination: u32, a: u32, constant: Code) -> Result<(), Refusal>
-        ensures answer { result ≡ done (answered K.Kind.ops self.old.pages (scale destination a constant)) }
-        ensures book { self.new.pages ≡ left K.Kind.ops self.old.pages (scale destination a constant) }
+        ensures answer { result ≡ done (answered K.Kind.ops self.old (scale destination a constant)) }
+        ensures book { self.new ≡ left K.Kind.ops self.old (scale destination a constant) }
     {
-        let Some(slate) = self.pages.slate else {
-            return Err(Refusal::Unset);
-        };
+        let Pages { slate, secrets } = &mut self.pages;
+        let slate = slate.as_mut().ok_or(Refusal::Unset)?;
         slate.may_scale(K::size(), destination, a, constant)?;
-        let cell = Scaled::<K> {
-            kind: PhantomData,
-            secrets: &self.pages.secrets,
-            a,
-            by: constant,
-        };
-        let row = rows::fill(slate.n, cell);
-        self.pages = Pages {
-            slate: Some(slate.with_line(destination, Line::Full)),
-            secrets: self.pages.secrets.with_shares(destination, row),
-        };
+        let row = rows::fill(
+            slate.n,
+            |seat| K::product(constant, secrets.share_of(seat, a)),
+        );
+        slate.set_line(destination, Line::Full);
+        secrets.set_shares(destination, row);
         Ok(())
     }
 
     // A product is in hand, and the destination is awaited.
     pub fn begin(&mut self, destination: u32, a: u32, b: u32) -> Result<(), Refusal>
-        ensures answer { result ≡ done (answered K.Kind.ops self.old.pages (begin destination a b)) }
-        ensures book { self.new.pages ≡ left K.Kind.ops self.old.pages (begin destination a b) }
+        ensures answer { result ≡ done (answered K.Kind.ops self.old (begin destination a b)) }
+        ensures book { self.new ≡ left K.Kind.ops self.old (begin destination a b) }
     {
-        let Some(slate) = self.pages.slate else {
-            return Err(Refusal::Unset);
-        };
-        slate.may_begin(K::size(), destination, a, b)?;
-        let hand = Hand { destination, a, b };
-        self.pages = Pages {
-            slate: Some(
-                slate
-                    .with_line(destination, Line::Awaited)
-                    .with_hand(Some(hand)),
-            ),
-            secrets: self.pages.secrets,
-        };
+        let slate = self.pages.slate.as_mut().ok_or(Refusal::Unset)?;
+        slate.may_begin(destination, a, b)?;
+        slate.set_line(destination, Line::Awaited);
+        slate.set_hand(Some(Hand { destination, a, b }));
         Ok(())
     }
 
     // The seat multiplies its shares of the product's lines, and shares the result among all seats.
     pub fn deal(&mut self, seat: u32, strip: &[Code]) -> Result<(), Refusal>
-        ensures answer { result ≡ done (answered K.Kind.ops self.old.pages (deal seat strip.now)) }
-        ensures book { self.new.pages ≡ left K.Kind.ops self.old.pages (deal seat strip.now) }
+        ensures answer { result ≡ done (answered K.Kind.ops self.old (deal seat strip.now)) }
+        ensures book { self.new ≡ left K.Kind.ops self.old (deal seat strip.now) }
     {
-        let Some(slate) = self.pages.slate else {
-            return Err(Refusal::Unset);
-        };
-        let Some(hand) = slate.hand else {
-            return Err(Refusal::NoneInHand);
-        };
-        slate.may_deal(K::size(), seat, strip)?;
-        let a = self.pages.secrets.share_of(seat, hand.a);
-        let b = self.pages.secrets.share_of(seat, hand.b);
-        let cell = Shared::<K> {
-            kind: PhantomData,
-            value: K::product(a, b),
-            strip,
-        };
-        let letters = rows::fill(slate.n, cell);
-        self.pages = Pages {
-            slate: Some(slate.with_dealt(seat)),
-            secrets: self.pages.secrets.with_letters(seat, letters),
-        };
+        let Pages { slate, secrets } = &mut self.pages;
+        let slate = slate.as_mut().ok_or(Refusal::Unset)?;
+        let hand = slate.may_deal(K::size(), seat, strip)?;
+        let a = secrets.share_of(seat, hand.a);
+        let b = secrets.share_of(seat, hand.b);
+        let product = K::product(a, b);
+        let letters = rows::fill(slate.n, |receiver| {
+            sharing::share::<K>(product, strip, receiver)
+        });
+        slate.set_dealt(seat);
+        secrets.set_letters(seat, letters);
         Ok(())
     }
 
     // The seat weighs the letters that it got; after the last seat's gather the destination is full.
     pub fn gather(&mut self, seat: u32) -> Result<(), Refusal>
-        ensures answer { result ≡ done (answered K.Kind.ops self.old.pages (gather seat)) }
-        ensures book { self.new.pages ≡ left K.Kind.ops self.old.pages (gather seat) }
+        ensures answer { result ≡ done (answered K.Kind.ops self.old (gather seat)) }
+        ensures book { self.new ≡ left K.Kind.ops self.old (gather seat) }
     {
-        let Some(slate) = self.pages.slate else {
-            return Err(Refusal::Unset);
-        };
-        let Some(hand) = slate.hand else {
-            return Err(Refusal::NoneInHand);
-        };
-        slate.may_gather(K::size(), seat)?;
-        self.pages = Pages {
-            slate: Some(slate.gathered_by(hand.destination, seat)),
-            secrets: gathered_in::<K>(&slate, hand, &self.pages.secrets, seat),
-        };
+        let Pages { slate, secrets } = &mut self.pages;
+        let slate = slate.as_mut().ok_or(Refusal::Unset)?;
+        let hand = slate.may_gather(seat)?;
+        let share = secrets.gathered_share::<K>(&self.weights, seat);
+        secrets.set_share(hand.destination, seat, share);
+        if slate.gather(hand.destination, seat) {
+            secrets.clear_letters();
+        }
         Ok(())
     }
 
     // The list takes the shares of seats 1 to n, and the answer is the total.
     pub fn open(&mut self, line: u32, list: &mut [Code]) -> Result<Code, Refusal>
-        ensures answer { result ≡ answered K.Kind.ops self.old.pages («open» line (length list.old)) }
-        ensures book { self.new.pages ≡ left K.Kind.ops self.old.pages («open» line (length list.old)) }
-        ensures written { list.new ≡ list_after K.Kind.ops.size self.old.pages («open» line (length list.old)) (λ s. opened s.n self.old.pages.secrets line) list.old }
+        ensures answer { result ≡ answered K.Kind.ops self.old («open» line (length list.old)) }
+        ensures book { self.new ≡ left K.Kind.ops self.old («open» line (length list.old)) }
+        ensures written { list.new ≡ list_after K.Kind.ops.size self.old («open» line (length list.old)) (λ s. opened s.n self.old.secrets line) list.old }
     {
-        let Some(slate) = self.pages.slate else {
-            return Err(Refusal::Unset);
-        };
-        slate.may_open(K::size(), line, list.len())?;
-        open_line(&self.pages.secrets, line, list);
-        Ok(weigh_up::<K>(list))
+        let slate = self.pages.slate.as_ref().ok_or(Refusal::Unset)?;
+        slate.may_open(line, list.len())?;
+        self.pages.secrets.open_line(line, list);
+        Ok(sharing::recombine::<K>(self.weights.as_slice(), list))
     }
 
     // The list takes all that the seat holds: its share of each line, and the letters to it.
     pub fn show(&mut self, seat: u32, list: &mut [Code]) -> Result<(), Refusal>
-        ensures answer { result ≡ done (answered K.Kind.ops self.old.pages (show seat (length list.old))) }
-        ensures book { self.new.pages ≡ left K.Kind.ops self.old.pages (show seat (length list.old)) }
-        ensures written { list.new ≡ list_after K.Kind.ops.size self.old.pages (show seat (length list.old)) (λ s. shown s self.old.pages.secrets seat) list.old }
+        ensures answer { result ≡ done (answered K.Kind.ops self.old (show seat (length list.old))) }
+        ensures book { self.new ≡ left K.Kind.ops self.old (show seat (length list.old)) }
+        ensures written { list.new ≡ list_after K.Kind.ops.size self.old (show seat (length list.old)) (λ s. shown s self.old.secrets seat) list.old }
     {
-        let Some(slate) = self.pages.slate else {
-            return Err(Refusal::Unset);
-        };
-        slate.may_show(K::size(), seat, list.len())?;
-        show_seat(&slate, &self.pages.secrets, seat, list);
+        let slate = self.pages.slate.as_ref().ok_or(Refusal::Unset)?;
+        slate.may_show(seat, list.len())?;
+        self.pages.secrets.show(slate, seat, list);
         Ok(())
     }
 }

@@ -1,13 +1,16 @@
-use Rattle.std.proofs.Common.{◌≡◌, ℕ, ◌-◌, ◌<◌, ◌≤◌, take, sym, ap, ◌∙◌, ⊎_elim, arith}
-use Rattle.std.proofs.lemmas.List.{take_all}
-use Rattle.std.proofs.lemmas.Bool.{cases_lt}
+use Rattle.std.proofs.Common.{◌≡◌, Bool, ◌&&◌, List, [], ◌∷◌, take, refl, ap, ◌∙◌, rules}
+use Rattle.std.specs.List.{list_all}
+use Rattle.std.proofs.lemmas.Iterator.{YieldsList-from_slice, YieldsList-from_take}
+use Rattle.std.proofs.lemmas.Iterator.Search.{all_from_yields_List}
 use Rattle.book.specs.Slates.{all_set}
 use Rattle.book.proofs.slate.first_set.Goals as goal
 
+all_set_is : (flags : List Bool) → list_all (λ set. set) flags ≡ all_set flags
+all_set_is [] = refl
+all_set_is (set ∷ rest) = ap (λ r. set && r) (all_set_is rest)
+
 pub returns : goal.returns
 returns c =
-    let n = c.args.n in
-    let flags = c.args.flags.now in
-    c.are_set.ensures
-    ∙ ⊎_elim (λ (few : n < 9). let e : c.min.result - 0 ≡ n = omega arith in ap (λ (m : ℕ). all_set (take m flags)) e)
-    (λ (many : 9 ≤ n). ap all_set (take_all (c.min.result - 0) flags (omega arith) ∙ sym (take_all n flags (omega arith)))) (cases_lt n 9)
+    all_from_yields_List (λ set. set) _ _ _ c.all.ensures.ran
+    (YieldsList-from_take c.args.n (YieldsList-from_slice c.args.flags.now cc) cc) (λ x b q k. search rules)
+    ∙ all_set_is (take c.args.n c.args.flags.now)

@@ -1,16 +1,14 @@
-use Rattle.std.proofs.Common.{Err, ap, ◌∙◌}
-use Rattle.std.proofs.lemmas.Result.{err_from_is_err_and}
-use Rattle.book.specs.Calls.{enter}
-use Rattle.book.proofs.Answering.{refused_done, refused_left}
+use Rattle.std.proofs.Common.{rules}
+use Rattle.sharing.specs.Shares.{share_at}
+use Rattle.book.proofs.Answering.{cause_of}
 use Rattle.book.proofs.book.Book.enter.Goals as goal
 
-pub returns-in_err-may_enter : goal.returns-in_err-may_enter
-returns-in_err-may_enter g c =
-    let p = err_from_is_err_and c.from_residual.result c.from_residual.ensures.1 in
-    let call = enter c.args.line c.args.house c.args.figure c.args.strip.now in
-    record {
-      answer =
-          p.1 ∙ ap Err p.2
-          ∙ refused_done g.K.Kind.ops c.args.self.now.pages call c.in-Some.slate c.in-Some.is c.size.result c.size.ensures _ c.in_err-may_enter.ensures;
-      book = refused_left g.K.Kind.ops c.args.self.now.pages call c.in-Some.slate c.in-Some.is c.size.result c.size.ensures _ c.in_err-may_enter.ensures;
-    }
+pub returns-clause-book : goal.returns-clause-book
+returns-clause-book g c =
+    let row = c.fill-row.ensures (share_at g.K.Kind.ops c.args.figure c.args.strip.now) (λ i v k. search rules) in
+    search rules
+
+pub returns-in_err-may_enter-clause-book : goal.returns-in_err-may_enter-clause-book
+returns-in_err-may_enter-clause-book g c =
+    let said = cause_of _ _ c.in_err-may_enter.ensures in
+    search rules

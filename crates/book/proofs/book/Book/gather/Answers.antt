@@ -1,23 +1,18 @@
-use Rattle.std.proofs.Common.{sym, ◌∙◌, ap₂}
-use Rattle.book.specs.Books.{written_down}
-use Rattle.book.specs.Calls.{gather}
-use Rattle.book.proofs.Answering.{accepted_done, accepted_left}
-use Rattle.book.proofs.Gathering.{mark_gather, move_gather}
+use Rattle.std.proofs.Common.{◌≡◌, ℕ, Some, List, map, length, ap, ap₂, ◌∙◌, rules}
+use Rattle.std.proofs.lemmas.List.FromFn.{length-map-range_with_len}
+use Rattle.sharing.specs.Shares.{seats_to, weight_among, weights_of, weighed}
+use Rattle.book.specs.Secrets.{letter_held, gathered_share}
 use Rattle.book.proofs.book.Book.gather.Goals as goal
 
-pub returns : goal.returns
-returns g c =
+pub returns-clause-book : goal.returns-clause-book
+returns-clause-book g c =
     let o = g.K.Kind.ops in
-    let p = c.args.self.now.pages in
-    let s = c.in-Some.slate in
-    let h = c.in-Some-hand.hand in
+    let s = c.in_ok-slate.slate.now in
+    let x = c.self.inside.pages.secrets in
     let seat = c.args.seat in
-    let call = gather seat in
-    let yes = c.in_ok-may_gather.ensures in
-    record {
-      answer = accepted_done o p call s c.in-Some.is c.size.result c.size.ensures yes;
-      book =
-          ap₂ (λ slate secrets. written_down (record { slate = slate; secrets = secrets })) (c.gathered_by.ensures ∙ sym (mark_gather s h seat c.in-Some-hand.is))
-          (c.gathered_in.ensures ∙ sym (move_gather o s h p.secrets seat c.in-Some-hand.is))
-          ∙ accepted_left o p call s c.in-Some.is c.size.result c.size.ensures yes;
-    }
+    let is : c.self.inside.pages.slate ≡ Some s = search rules in
+    let kept : c.self.inside.weights.items ≡ weights_of o s.n = search rules in
+    let many : length c.self.inside.weights.items ≡ s.n = ap length kept ∙ length-map-range_with_len (weight_among o (seats_to s.n)) 1 s.n in
+    let share : c.gathered_share-share.result ≡ gathered_share o s.n x seat =
+    c.gathered_share-share.ensures ∙ ap₂ (λ (ws : List ℕ) (n : ℕ). weighed o ws (map (letter_held x seat) (seats_to n))) kept many in
+    search rules

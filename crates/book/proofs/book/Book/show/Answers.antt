@@ -1,17 +1,13 @@
-use Rattle.std.proofs.Common.{length, refl, ◌∙◌}
+use Rattle.std.proofs.Common.{◌≡◌, length, subst, rules}
+use Rattle.book.specs.Books.{list_after}
 use Rattle.book.specs.Calls.{show}
 use Rattle.book.specs.Secrets.{shown}
-use Rattle.book.proofs.Answering.{accepted_done, accepted_same, accepted_list}
+use Rattle.book.specs.declared.pages.Pages.{Pages}
 use Rattle.book.proofs.book.Book.show.Goals as goal
 
-pub returns : goal.returns
-returns g c =
-    let o = g.K.Kind.ops in
-    let p = c.args.self.now.pages in
-    let call = show c.args.seat (length c.args.list.now) in
-    let yes = c.in_ok-may_show.ensures in
-    record {
-      answer = accepted_done o p call c.in-Some.slate c.in-Some.is c.size.result c.size.ensures yes;
-      book = accepted_same o p call c.in-Some.slate c.in-Some.is c.size.result c.size.ensures yes refl refl;
-      written = c.show_seat.ensures ∙ accepted_list o p call c.in-Some.slate c.in-Some.is c.size.result c.size.ensures yes (λ s. shown s p.secrets c.args.seat) c.args.list.now;
-    }
+pub returns-clause-written : goal.returns-clause-written
+returns-clause-written g c =
+    let seat = c.args.seat in
+    let list = c.args.list.now in
+    subst (λ (p : Pages). c.show.new.list ≡ list_after g.K.Kind.ops.size p (show seat (length list)) (λ s. shown s p.secrets seat) list)
+    c.self.view_is (search rules)

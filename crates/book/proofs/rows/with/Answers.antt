@@ -1,6 +1,0 @@
-use Rattle.std.proofs.Common.{sym, arith}
-use Rattle.std.proofs.lemmas.List.{set_past}
-use Rattle.book.proofs.rows.with.Goals as goal
-
-pub returns-then-place-ge-MOST_SEATS : goal.returns-then-place-ge-MOST_SEATS
-returns-then-place-ge-MOST_SEATS c = sym (set_past c.args.row.now _ _ (omega arith))
