@@ -1,7 +1,7 @@
 -- A fault is the leftmost of its line. Assumes nothing.
-use Rattle.std.proofs.Common.{◌≡◌, ℕ, ◌+◌, ◌-◌, ◌≤◌, Bool, true, false, cond, ltb, ◌⊎◌, List, [], ◌∷◌, ◌++◌, length, sym, refl, ap, ◌∙◌, subst, inl, inr, ⊎_elim, append_assoc, append-nil, arith}
+use Rattle.std.proofs.Common.{◌≡◌, ℕ, ◌+◌, ◌-◌, ◌≤◌, true, false, ◌⊎◌, List, [], ◌∷◌, ◌++◌, length, sym, refl, ap, ◌∙◌, subst, inl, inr, ⊎_elim, append_assoc, append-nil, arith}
 use Rattle.std.proofs.lemmas.List.{length_push, length-append}
-use Rattle.std.proofs.lemmas.Bool.{ltb-true, ltb-false, cases_Bool, cond-true, cond-false, both_ways}
+use Rattle.std.proofs.lemmas.Bool.{cases_Bool, cond-true, cond-false, both_ways}
 use Rattle.reading.specs.Forms.{Form, Piece, number, numbers, is_digit, is_number, begins, spell_item, opened, spell, Word, Each, Number, Run, ProperPiece, LoosePiece}
 use Rattle.reading.specs.Read.{Reading, State, Step, faulted, goes, ends, refuses, before, in_word, after_item, at_item, in_number, at_list, at_number, in_list, closed, step, run, judged, form_of, with_item}
 use Rattle.reading.specs.Faults.{lead, so_far, CleanState, Inside, Begins, WrongByte, Leftmost, FaultIsLeftmost}
@@ -34,17 +34,13 @@ nought : Run (48 ∷ [])
 nought = (omega arith, refl)
 
 closes : (f : Form) (p : Piece) (tail : List ℕ) (x : ℕ) (rest : List ℕ) → tail ++ x ∷ rest ≡ spell_item p ++ 41 ∷ 10 ∷ [] → (opened f ++ tail) ++ x ∷ rest ≡ spell (with_item f p)
-closes f p tail x rest e =
-    append_assoc (opened f) tail (x ∷ rest) ∙ ap (λ l. opened f ++ l) e
-    ∙ sym (append_assoc (opened f) (spell_item p) (41 ∷ 10 ∷ []))
-    ∙ ap (λ l. l ++ 41 ∷ 10 ∷ []) (sym (opened_more f p))
+closes f p tail x rest e = grind (arith, append_assoc, opened_more)
 
 item_more : (f : Form) (p : Piece) → Whole LoosePiece f → LoosePiece p → Whole LoosePiece (with_item f p)
 item_more f p h q = (h.0, each_more LoosePiece f.items p h.1 q)
 
 listed_end : (ns : List (List ℕ)) (ds : List ℕ) → 32 ∷ 40 ∷ (lead ns ++ ds) ++ 41 ∷ 41 ∷ 10 ∷ [] ≡ spell_item (numbers (ns ++ ds ∷ [])) ++ 41 ∷ 10 ∷ []
-listed_end ns ds =
-    ap (λ l. 32 ∷ 40 ∷ l) (sym (append_assoc (lead ns ++ ds) (41 ∷ []) (41 ∷ 10 ∷ [])) ∙ ap (λ l. (l ++ 41 ∷ []) ++ 41 ∷ 10 ∷ []) (sym (spaced_more ns ds)))
+listed_end ns ds = grind (arith, spaced_more, append_assoc)
 
 inside : (s : State) → Loosely s → Inside (so_far s)
 inside before h = (form_of (97 ∷ []), 40, 97 ∷ 41 ∷ 10 ∷ [], (short_word, tt), refl)
@@ -65,7 +61,7 @@ inside (closed f) h = (f, 10, [], h, append_assoc (opened f) (41 ∷ []) (10 ∷
 
 clean : (s : State) → Sound s → Passed Number Ninth s → CleanState s
 clean before h p = tt
-clean (in_word w) h p = tt
+clean (in_word w) h p = h.1
 clean (after_item f) h p = h
 clean (at_item f) h p = h
 clean (in_number f ds) h p = (h.0, p)
@@ -94,10 +90,10 @@ no_line s b r led t =
     never f (over ∙ stops (step s b) r rest)
   where
     never : (f : Form) → ends f ≡ refuses → ⊥
-    never f e = let z : ◌≡◌ {A = ℕ} 0 1 = cc in omega arith
+    never f e = cc
 
     stops : (x : Step) → x ≡ refuses → (rest : List ℕ) → feed_step x rest ≡ refuses
-    stops (goes u) e rest = absurd (let z : ◌≡◌ {A = ℕ} 0 1 = cc in omega arith)
+    stops (goes u) e rest = cc
     stops (ends g) e rest = e
     stops refuses e rest = refl
 
@@ -118,22 +114,10 @@ blame before c r k d e = inl (tt, e)
 blame (in_word w) c r k d e = inl (tt, e)
 blame (after_item f) c r k d e = inl (tt, e)
 blame (at_item f) c r k d e = inl (tt, e)
-blame (in_number f ds) c r k d e = go (is_number ds) e
-  where
-    go : (v : Bool) → cond v r (faulted 21 (c - length ds)) ≡ faulted k d → ((v ≡ true) × (r ≡ faulted k d)) ⊎ ((k ≡ 21) × (d ≡ c - length ds) × (v ≡ false))
-    go true h = inl (refl, h)
-    go false h = inr (cc, cc, refl)
+blame (in_number f ds) c r k d e = grind arith
 blame (at_list f) c r k d e = inl (tt, e)
 blame (at_number f ns) c r k d e = inl (tt, e)
-blame (in_list f ns ds) c r k d e =
-    ⊎_elim (λ t. inl ((t.0, ltb-true (length ns) 9 t.1), t.2))
-    (λ t. inr (t.0, ⊎_elim (λ u. inl u) (λ u. inr (u.0, u.1, ltb-false (length ns) 9 u.2)) t.1))
-    (go (is_number ds) (ltb (length ns) 9) e)
-  where
-    go : (v u : Bool) → cond v (cond u r (faulted 22 (c - length ds))) (faulted 21 (c - length ds)) ≡ faulted k d → ((v ≡ true) × (u ≡ true) × (r ≡ faulted k d)) ⊎ ((d ≡ c - length ds) × (((k ≡ 21) × (v ≡ false)) ⊎ ((k ≡ 22) × (v ≡ true) × (u ≡ false))))
-    go true true h = inl (refl, refl, h)
-    go true false h = inr (cc, inr (cc, refl, refl))
-    go false u h = inr (cc, inl (cc, refl))
+blame (in_list f ns ds) c r k d e = grind arith
 blame (closed f) c r k d e = inl (tt, e)
 
 bad_left : (bytes : List ℕ) (s : State) (c : ℕ) (bs : List ℕ) (k d : ℕ) → At bytes s c bs → begins is_digit bs ≡ false → Bad s c k d → Leftmost bytes k d
@@ -154,7 +138,7 @@ bad_left bytes (in_number f ds) c bs k d a n w =
       omega arith,
       inside (at_item f) a.loosely.0,
       (at_item f, refl, a.sound.0),
-      inr (inl (w.0, (ds, bs, refl, a.loosely.1, w.2, n, subst Inside (sym joins) (inside (in_number f ds) a.loosely)))),
+      inr (inl (w.0, (ds, bs, refl, a.loosely.1, w.2, n, subst Inside (sym joins) (inside (in_number f ds) a.loosely), (at_item f, refl, a.sound.0, tt)))),
     )
 bad_left bytes (at_list f) c bs k d a n w = absurd w
 bad_left bytes (at_number f ns) c bs k d a n w = absurd w
@@ -173,17 +157,14 @@ bad_left bytes (in_list f ns ds) c bs k d a n w =
       inside (at_number f ns) (a.loosely.0, a.loosely.1),
       (at_number f ns, refl, (a.sound.0, a.sound.1.0, a.sound.1.1)),
       ⊎_elim
-          (λ u. inr (inl (u.0, (ds, bs, refl, a.loosely.2, u.1, n, subst Inside (sym joins) (inside (in_list f ns ds) a.loosely)))))
-          (λ u. inr (inr (u.0, (f, ns, ds, bs, refl, omega (arith, u.2), refl, u.1, n))))
+          (λ u. inr (inl (u.0, (ds, bs, refl, a.loosely.2, u.1, n, subst Inside (sym joins) (inside (in_list f ns ds) a.loosely), (at_number f ns, refl, (a.sound.0, a.sound.1.0, a.sound.1.1), tt)))))
+          (λ u. inr (inr (u.0, (f, ns, ds, bs, a.sound.0, a.sound.1.1, refl, omega (arith, u.2), refl, u.1, n))))
           w.1,
     )
 bad_left bytes (closed f) c bs k d a n w = absurd w
 
 byte_left : (bytes : List ℕ) (s : State) (c : ℕ) (bs : List ℕ) (k d : ℕ) → At bytes s c bs → Passed Number Ninth s → faulted 20 c ≡ faulted k d → WrongByte (so_far s) bs → Leftmost bytes k d
-byte_left bytes s c bs k d a p e w =
-    let cause : k ≡ 20 = cc in
-    let col : d ≡ c = cc in
-    (so_far s, bs, a.here, col ∙ a.column, inside s a.loosely, (s, refl, clean s a.sound p), inl (cause, w))
+byte_left bytes s c bs k d a p e w = grind (arith, inside, clean)
 
 -- a digit is refused only where no run stands
 digit_passed : (s : State) (b : ℕ) → is_digit b ≡ true → step s b ≡ refuses → Passed Number Ninth s
@@ -191,16 +172,10 @@ digit_passed before b d e = tt
 digit_passed (in_word w) b d e = tt
 digit_passed (after_item f) b d e = tt
 digit_passed (at_item f) b d e = tt
-digit_passed (in_number f ds) b d e = absurd (goes_on (sym (cond-true (is_digit b) _ _ d) ∙ e))
-  where
-    goes_on : {t : State} → goes t ≡ refuses → ⊥
-    goes_on h = let z : ◌≡◌ {A = ℕ} 0 1 = cc in omega arith
+digit_passed (in_number f ds) b d e = grind arith
 digit_passed (at_list f) b d e = tt
 digit_passed (at_number f ns) b d e = tt
-digit_passed (in_list f ns ds) b d e = absurd (goes_on (sym (cond-true (is_digit b) _ _ d) ∙ e))
-  where
-    goes_on : {t : State} → goes t ≡ refuses → ⊥
-    goes_on h = let z : ◌≡◌ {A = ℕ} 0 1 = cc in omega arith
+digit_passed (in_list f ns ds) b d e = grind arith
 digit_passed (closed f) b d e = tt
 
 step_led : (s t : State) (b : ℕ) → feed before (so_far s) ≡ goes s → step s b ≡ goes t → so_far t ≡ so_far s ++ b ∷ [] → feed before (so_far t) ≡ goes t
@@ -219,7 +194,7 @@ module _ (bytes : List ℕ) (k d : ℕ) where
         loosely = subst (Kept LoosePiece (Each Run)) is (step_keeps loose s b a.loosely (λ _. loose_passed s));
         led = step_led s t b a.led is spelled;
       }) e
-  after s c b bs a p ih (ends f) is e = absurd (let z : ◌≡◌ {A = ℕ} 0 1 = cc in omega arith)
+  after s c b bs a p ih (ends f) is e = cc
   after s c b bs a p ih refuses is e =
       byte_left bytes s c (b ∷ bs) k d a (⊎_elim (λ t. digit_passed s b t is) p (cases_Bool (is_digit b))) e (no_line s b is a.led)
 

@@ -1,5 +1,4 @@
 mod Along
-mod Answered
 mod Forward
 mod Fronts
 mod Items

@@ -1,8 +1,8 @@
 -- The line's rule alone, by which every loose line goes through. Assumes nothing.
-use Rattle.std.proofs.Common.{◌≡◌, ℕ, ◌+◌, ◌<◌, ◌≤◌, true, ltb, List, [], ◌∷◌, ◌++◌, length, sym, refl, ap, ◌∙◌, append_assoc, append-nil, arith}
+use Rattle.std.proofs.Common.{◌≡◌, ℕ, ◌+◌, ◌<◌, ◌≤◌, true, List, [], ◌∷◌, ◌++◌, length, sym, refl, ap, ◌∙◌, append_assoc, append-nil, arith}
 use Rattle.std.specs.List.{flat_map}
 use Rattle.std.proofs.lemmas.List.{length_push}
-use Rattle.std.proofs.lemmas.Bool.{lt-ltb, and_parts, cond-true}
+use Rattle.std.proofs.lemmas.Bool.{cond-true}
 use Rattle.reading.specs.Forms.{Form, Piece, number, numbers, is_letter, is_digit, all, spaced, spell_item, spell, Each, Run, LoosePiece, Loose}
 use Rattle.reading.specs.Read.{State, Step, goes, ends, refuses, before, in_word, after_item, at_item, in_number, at_list, at_number, in_list, step, form_of, with_item}
 use Rattle.reading.proofs.Items.{with_items}
@@ -19,37 +19,21 @@ feed s [] = goes s
 feed s (b ∷ bs) = fed (step s b) (λ t. feed t bs)
 
 pub feed_on : (xs : List ℕ) (s t : State) (ys : List ℕ) → feed s xs ≡ goes t → feed s (xs ++ ys) ≡ feed t ys
-feed_on [] s t ys e = let same : s ≡ t = cc in ap (λ u. feed u ys) same
-feed_on (x ∷ xs) s t ys e = go (step s x) e (λ u h. feed_on xs u t ys h)
-  where
-    go : (y : Step) → fed y (λ u. feed u xs) ≡ goes t → ((u : State) → feed u xs ≡ goes t → feed u (xs ++ ys) ≡ feed t ys) → fed y (λ u. feed u (xs ++ ys)) ≡ feed t ys
-    go (goes u) h ih = ih u h
-    go (ends f) h ih = absurd (let z : ◌≡◌ {A = ℕ} 0 1 = cc in omega arith)
-    go refuses h ih = absurd (let z : ◌≡◌ {A = ℕ} 0 1 = cc in omega arith)
+feed_on [] s t ys e = grind arith
+feed_on (x ∷ xs) s t ys e = grind (arith, feed_on xs)
 
 feed_letters : (xs w r : List ℕ) → all is_letter xs ≡ true → length w + length xs ≤ 8 → feed (in_word w) (xs ++ r) ≡ feed (in_word (w ++ xs)) r
 feed_letters [] w r a h = ap (λ l. feed (in_word l) r) (sym (append-nil w))
-feed_letters (x ∷ xs) w r a h =
-    let p = and_parts (is_letter x) (all is_letter xs) a in
-    let n = length_push w x in
-    ap (λ y. fed y (λ t. feed t (xs ++ r))) (cond-true (is_letter x) _ _ p.0 ∙ cond-true (ltb (length w) 8) _ _ (lt-ltb (length w) 8 (omega arith)))
-    ∙ feed_letters xs (w ++ x ∷ []) r p.1 (omega arith)
-    ∙ ap (λ l. feed (in_word l) r) (append_assoc w (x ∷ []) xs)
+feed_letters (x ∷ xs) w r a h = grind (arith, feed_letters xs (w ++ x ∷ []) r, append_assoc w (x ∷ []) xs, length_push w x)
 
 module _ (K : List ℕ → State) (one : (ds : List ℕ) (b : ℕ) → is_digit b ≡ true → step (K ds) b ≡ goes (K (ds ++ b ∷ []))) where
   feed_digits : (xs ds r : List ℕ) → all is_digit xs ≡ true → feed (K ds) (xs ++ r) ≡ feed (K (ds ++ xs)) r
   feed_digits [] ds r a = ap (λ l. feed (K l) r) (sym (append-nil ds))
-  feed_digits (x ∷ xs) ds r a =
-      let p = and_parts (is_digit x) (all is_digit xs) a in
-      ap (λ y. fed y (λ t. feed t (xs ++ r))) (one ds x p.0)
-      ∙ feed_digits xs (ds ++ x ∷ []) r p.1
-      ∙ ap (λ l. feed (K l) r) (append_assoc ds (x ∷ []) xs)
+  feed_digits (x ∷ xs) ds r a = grind (arith, feed_digits xs, append_assoc)
 
   feed_run : (s : State) → ((b : ℕ) → is_digit b ≡ true → step s b ≡ goes (K (b ∷ []))) → (xs r : List ℕ) → Run xs → feed s (xs ++ r) ≡ feed (K xs) r
   feed_run s first [] r h = absurd (let e = h.0 in omega arith)
-  feed_run s first (x ∷ xs) r h =
-      let p = and_parts (is_digit x) (all is_digit xs) h.1 in
-      ap (λ y. fed y (λ t. feed t (xs ++ r))) (first x p.0) ∙ feed_digits xs (x ∷ []) r p.1
+  feed_run s first (x ∷ xs) r h = grind (arith, feed_digits)
 
 abbrev Starts : Form → List (List ℕ) → State → Type 0
 Starts f ms s = (b : ℕ) → is_digit b ≡ true → step s b ≡ goes (in_list f ms (b ∷ []))
@@ -89,8 +73,8 @@ feed_items (numbers ns ∷ ps) f h =
     ∙ ap (λ l. ends (record { word = f.word; items = l })) (append_assoc f.items (numbers ns ∷ []) ps)
 
 word_over : (w : List ℕ) (ps : List Piece) → 0 < length w → feed (in_word w) (flat_map spell_item ps ++ line_end) ≡ feed (after_item (form_of w)) (flat_map spell_item ps ++ line_end)
-word_over w [] h = rw (lt-ltb 0 (length w) h)
-word_over w (p ∷ ps) h = rw (lt-ltb 0 (length w) h)
+word_over w [] h = grind arith
+word_over w (p ∷ ps) h = grind arith
 
 pub feed_line : (f : Form) → Loose f → feed before (spell f) ≡ ends f
 feed_line f h =

@@ -1,7 +1,6 @@
 -- Every proper line is read. Assumes nothing.
-use Rattle.std.proofs.Common.{◌≡◌, ℕ, ◌+◌, ◌<◌, ◌≤◌, true, false, ltb, leb, List, [], ◌∷◌, ◌++◌, length, sym, refl, ap, ◌∙◌, append_assoc, append-nil, arith}
+use Rattle.std.proofs.Common.{◌≡◌, ℕ, ◌+◌, ◌<◌, ◌≤◌, true, false, List, [], ◌∷◌, ◌++◌, length, sym, refl, ap, ◌∙◌, append_assoc, append-nil, arith}
 use Rattle.std.specs.List.{flat_map}
-use Rattle.std.proofs.lemmas.Bool.{ltb-true, and_parts}
 use Rattle.std.proofs.lemmas.List.{length-append}
 use Rattle.reading.specs.Forms.{Form, Piece, number, numbers, is_letter, is_digit, is_number, all, begins, spaced, spell_item, opened, Each, Number, ProperPiece}
 use Rattle.reading.specs.Read.{form_read, after_item, at_item, at_list, at_number, run, read, form_of, with_item}
@@ -10,10 +9,10 @@ use Rattle.reading.proofs.Forward.{run_letters, word_ends, run_number, run_liste
 
 -- a number is a run of digits
 pub number_some : (ds : List ℕ) → is_number ds ≡ true → 0 < length ds
-number_some ds v = ltb-true 0 (length ds) (and_parts (ltb 0 (length ds)) _ v).0
+number_some ds v = grind arith
 
 pub number_digits : (ds : List ℕ) → is_number ds ≡ true → all is_digit ds ≡ true
-number_digits ds v = (and_parts (all is_digit ds) _ (and_parts (leb (length ds) 10) _ (and_parts (ltb 0 (length ds)) _ v).1).1).0
+number_digits ds v = grind arith
 
 -- the numbers n ∷ ns behind ms, up to the ")" and what follows
 listed : (f : Form) (ms : List (List ℕ)) (n : List ℕ) (ns : List (List ℕ)) (c : ℕ) (r : List ℕ) → Each Number (n ∷ ns) → length ms + length (n ∷ ns) ≤ 9 → (d : ℕ) × (run (at_number f ms) c (spaced (n ∷ ns) ++ 41 ∷ r) ≡ run (after_item (with_item f (numbers (ms ++ n ∷ ns)))) d r)
@@ -35,7 +34,7 @@ listed f ms n (m ∷ ns) c r v h =
 -- at-list and at-number differ only at a ")"
 at_first : (f : Form) (n r : List ℕ) (c : ℕ) → 0 < length n → all is_digit n ≡ true → run (at_list f) c (n ++ r) ≡ run (at_number f []) c (n ++ r)
 at_first f [] r c h a = absurd (omega arith)
-at_first f (b ∷ n) r c h a = rw (and_parts (is_digit b) _ a).0
+at_first f (b ∷ n) r c h a = grind arith
 
 spaced_first : (n : List ℕ) (ns : List (List ℕ)) (t : List ℕ) → (u : List ℕ) × (spaced (n ∷ ns) ++ t ≡ n ++ u)
 spaced_first n [] t = (t, refl)

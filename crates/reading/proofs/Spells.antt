@@ -1,9 +1,9 @@
 -- What is read spells the line: the state has all the bytes so far, and what it has is proper. Assumes nothing.
-use Rattle.std.proofs.Common.{◌≡◌, ℕ, ◌+◌, ◌-◌, ◌<◌, ◌≤◌, Bool, true, false, cond, eqb, ltb, List, [], ◌∷◌, ◌++◌, length, sym, refl, ap, ◌∙◌, subst, append_assoc, append-nil, arith}
-use Rattle.std.proofs.lemmas.Bool.{ltb-true, eqb-true, and_parts, and_from, cond_both}
+use Rattle.std.proofs.Common.{◌≡◌, ℕ, ◌+◌, ◌<◌, ◌≤◌, Bool, true, false, eqb, List, [], ◌∷◌, ◌++◌, length, sym, refl, append_assoc, append-nil, arith}
+use Rattle.std.proofs.lemmas.Bool.{cond_both}
 use Rattle.std.proofs.lemmas.List.{length_push, flat_map_more}
-use Rattle.reading.specs.Forms.{Form, Piece, number, numbers, is_letter, is_digit, is_number, all, spaced, spell_item, opened, spell, Each, Word, Number, Run, ProperPiece, Proper}
-use Rattle.reading.specs.Read.{Reading, State, Step, faulted, form_read, goes, ends, refuses, before, in_word, after_item, at_item, in_number, at_list, at_number, in_list, closed, step, run, judged, next_item, next_number, form_of, with_item}
+use Rattle.reading.specs.Forms.{Form, Piece, number, numbers, is_letter, is_digit, all, spaced, spell_item, opened, spell, Each, Word, Number, Run, ProperPiece, Proper}
+use Rattle.reading.specs.Read.{Reading, State, Step, faulted, form_read, goes, ends, refuses, before, in_word, after_item, at_item, in_number, at_list, at_number, in_list, closed, step, run, judged, next_item, next_number, with_item}
 use Rattle.reading.specs.Faults.{lead, so_far}
 use Rattle.reading.specs.Laws.{ReadSpells}
 use Rattle.reading.proofs.Forward.{then-run}
@@ -13,11 +13,8 @@ lead_more ns ds = sym (flat_map_more (λ n. n ++ 32 ∷ []) [] ns ds)
 
 pub spaced_more : (ns : List (List ℕ)) (ds : List ℕ) → spaced (ns ++ ds ∷ []) ≡ lead ns ++ ds
 spaced_more [] ds = refl
-spaced_more (n ∷ []) ds = sym (append_assoc n (32 ∷ []) ds) ∙ ap (λ l. l ++ ds) (sym (append-nil (n ++ 32 ∷ [])))
-spaced_more (n ∷ m ∷ ns) ds =
-    ap (λ l. n ++ 32 ∷ l) (spaced_more (m ∷ ns) ds)
-    ∙ sym (append_assoc n (32 ∷ []) (lead (m ∷ ns) ++ ds))
-    ∙ sym (append_assoc (n ++ 32 ∷ []) (lead (m ∷ ns)) ds)
+spaced_more (n ∷ []) ds = grind (arith, append_assoc, append-nil)
+spaced_more (n ∷ m ∷ ns) ds = grind (arith, append_assoc, spaced_more (m ∷ ns) ds)
 
 pub opened_more : (f : Form) (p : Piece) → opened (with_item f p) ≡ opened f ++ spell_item p
 opened_more f p = sym (flat_map_more spell_item (40 ∷ f.word) f.items p)
@@ -28,65 +25,29 @@ Spells s b (ends f) = spell f ≡ so_far s ++ b ∷ []
 Spells s b refuses = Unit {0}
 
 next_item_spells : (s : State) (f : Form) (b : ℕ) → opened f ≡ so_far s → Spells s b (next_item f b)
-next_item_spells s f b h =
-    cond_both (eqb b 32) _ _ (Spells s b)
-    (λ e. ap (λ l. l ++ 32 ∷ []) h ∙ ap (λ x. so_far s ++ x ∷ []) (sym (eqb-true b 32 e)))
-    (λ _. cond_both (eqb b 41) _ _ (Spells s b) (λ e. ap (λ l. l ++ 41 ∷ []) h ∙ ap (λ x. so_far s ++ x ∷ []) (sym (eqb-true b 41 e))) (λ _. tt))
-
--- one more byte of what stands behind a front
-pushed : (a m : List ℕ) (b : ℕ) → a ++ (m ++ b ∷ []) ≡ (a ++ m) ++ b ∷ []
-pushed a m b = sym (append_assoc a m (b ∷ []))
+next_item_spells s f b h = grind arith
 
 list_spells : (f : Form) (ns : List (List ℕ)) (ds : List ℕ) (b : ℕ) → Spells (in_list f ns ds) b (next_number f (ns ++ ds ∷ []) b)
-list_spells f ns ds b =
-    cond_both (eqb b 32) _ _ (Spells (in_list f ns ds) b)
-    (λ e. ap (λ l. opened f ++ 32 ∷ 40 ∷ l) (lead_more ns ds ∙ pushed (lead ns) ds 32) ∙ pushed (opened f) (32 ∷ 40 ∷ (lead ns ++ ds)) 32 ∙ to b (sym (eqb-true b 32 e)))
-    (λ _. cond_both (eqb b 41) _ _ (Spells (in_list f ns ds) b)
-    (λ e. opened_more f (numbers (ns ++ ds ∷ [])) ∙ ap (λ l. opened f ++ 32 ∷ 40 ∷ (l ++ 41 ∷ [])) (spaced_more ns ds) ∙ pushed (opened f) (32 ∷ 40 ∷ (lead ns ++ ds)) 41 ∙ to b (sym (eqb-true b 41 e)))
-    (λ _. tt))
-  where
-    to : {x : ℕ} (y : ℕ) → x ≡ y → so_far (in_list f ns ds) ++ x ∷ [] ≡ so_far (in_list f ns ds) ++ y ∷ []
-    to y e = ap (λ z. so_far (in_list f ns ds) ++ z ∷ []) e
+list_spells f ns ds b = grind (arith, append_assoc, lead_more, opened_more, spaced_more)
 
 pub step_spells : (s : State) (b : ℕ) → Spells s b (step s b)
-step_spells before b = cond_both (eqb b 40) _ _ (Spells before b) (λ e. ap (λ x. x ∷ []) (sym (eqb-true b 40 e))) (λ _. tt)
-step_spells (in_word w) b =
-    cond_both (is_letter b) _ _ (Spells (in_word w) b)
-    (λ _. cond_both (ltb (length w) 8) _ _ (Spells (in_word w) b) (λ _. refl) (λ _. tt))
-    (λ _. cond_both (ltb 0 (length w)) _ _ (Spells (in_word w) b) (λ _. next_item_spells (in_word w) (form_of w) b (append-nil (40 ∷ w))) (λ _. tt))
+step_spells before b = grind arith
+step_spells (in_word w) b = grind (arith, next_item_spells, append-nil)
 step_spells (after_item f) b = next_item_spells (after_item f) f b refl
-step_spells (at_item f) b =
-    cond_both (is_digit b) _ _ (Spells (at_item f) b)
-    (λ _. pushed (opened f) (32 ∷ []) b)
-    (λ _. cond_both (eqb b 40) _ _ (Spells (at_item f) b) (λ e. pushed (opened f) (32 ∷ []) 40 ∙ ap (λ z. so_far (at_item f) ++ z ∷ []) (sym (eqb-true b 40 e))) (λ _. tt))
-step_spells (in_number f ds) b =
-    cond_both (is_digit b) _ _ (Spells (in_number f ds) b)
-    (λ _. pushed (opened f) (32 ∷ ds) b)
-    (λ _. next_item_spells (in_number f ds) (with_item f (number ds)) b (opened_more f (number ds)))
-step_spells (at_list f) b =
-    cond_both (is_digit b) _ _ (Spells (at_list f) b)
-    (λ _. pushed (opened f) (32 ∷ 40 ∷ []) b)
-    (λ _. cond_both (eqb b 41) _ _ (Spells (at_list f) b)
-    (λ e. opened_more f (numbers []) ∙ pushed (opened f) (32 ∷ 40 ∷ []) 41 ∙ ap (λ z. so_far (at_list f) ++ z ∷ []) (sym (eqb-true b 41 e)))
-    (λ _. tt))
-step_spells (at_number f ns) b =
-    cond_both (is_digit b) _ _ (Spells (at_number f ns) b) (λ _. pushed (opened f) (32 ∷ 40 ∷ lead ns) b) (λ _. tt)
-step_spells (in_list f ns ds) b =
-    cond_both (is_digit b) _ _ (Spells (in_list f ns ds) b)
-    (λ _. ap (λ l. opened f ++ 32 ∷ 40 ∷ l) (pushed (lead ns) ds b) ∙ pushed (opened f) (32 ∷ 40 ∷ (lead ns ++ ds)) b)
-    (λ _. list_spells f ns ds b)
-step_spells (closed f) b =
-    cond_both (eqb b 10) _ _ (Spells (closed f) b) (λ e. pushed (opened f) (41 ∷ []) 10 ∙ ap (λ z. so_far (closed f) ++ z ∷ []) (sym (eqb-true b 10 e))) (λ _. tt)
+step_spells (at_item f) b = grind (arith, append_assoc)
+step_spells (in_number f ds) b = grind (arith, append_assoc, next_item_spells, opened_more)
+step_spells (at_list f) b = grind (arith, append_assoc, opened_more)
+step_spells (at_number f ns) b = grind (arith, append_assoc)
+step_spells (in_list f ns ds) b = grind (arith, append_assoc, list_spells)
+step_spells (closed f) b = grind (arith, append_assoc)
 
 pub each_more : {A : Type 0} (P : A → Type 0) (xs : List A) (x : A) → Each P xs → P x → Each P (xs ++ x ∷ [])
-each_more P [] x h p = (p, tt)
-each_more P (y ∷ xs) x h p = (h.0, each_more P xs x h.1 p)
+each_more P [] x h p = grind arith
+each_more P (y ∷ xs) x h p = grind (arith, each_more P xs)
 
 pub all_more : (t : ℕ → Bool) (xs : List ℕ) (x : ℕ) → all t xs ≡ true → t x ≡ true → all t (xs ++ x ∷ []) ≡ true
-all_more t [] x h p = and_from (t x) true p refl
-all_more t (y ∷ xs) x h p =
-    let both = and_parts (t y) (all t xs) h in
-    and_from (t y) (all t (xs ++ x ∷ [])) both.0 (all_more t xs x both.1 p)
+all_more t [] x h p = grind arith
+all_more t (y ∷ xs) x h p = grind (arith, all_more t xs x)
 
 -- What a state keeps, for pieces that are P, lists so far that are N and runs so far that are R; Ended and Listed say what is known where a run ends.
 pub record Rules (P : Piece → Type 0) (N : List (List ℕ) → Type 0) (Ended : List ℕ → Type 0) (Listed : List (List ℕ) → List ℕ → Type 0) : Type 0 where
@@ -127,39 +88,34 @@ Passed Ended Listed (in_list f ns ds) = Listed ns ds
 Passed Ended Listed (closed f) = Unit {0}
 
 run_one : (b : ℕ) → is_digit b ≡ true → Run (b ∷ [])
-run_one b d = (omega arith, and_from (is_digit b) true d refl)
+run_one b d = grind arith
 
 run_more : (ds : List ℕ) (b : ℕ) → Run ds → is_digit b ≡ true → Run (ds ++ b ∷ [])
-run_more ds b r d = (omega (arith, length_push ds b), all_more is_digit ds b r.1 d)
+run_more ds b r d = grind (arith, length_push, all_more)
 
 module _ {P : Piece → Type 0} {N : List (List ℕ) → Type 0} {Ended : List ℕ → Type 0} {Listed : List (List ℕ) → List ℕ → Type 0} (k : Rules P N Ended Listed) where
   next_item_keeps : (f : Form) (b : ℕ) → Whole P f → Kept P N (next_item f b)
-  next_item_keeps f b h = cond_both (eqb b 32) _ _ (Kept P N) (λ _. h) (λ _. cond_both (eqb b 41) _ _ (Kept P N) (λ _. h) (λ _. tt))
+  next_item_keeps f b h = grind arith
 
   item_more : (f : Form) (p : Piece) → Whole P f → P p → Whole P (with_item f p)
   item_more f p h q = (h.0, each_more P f.items p h.1 q)
 
   next_number_keeps : (f : Form) (ns : List (List ℕ)) (b : ℕ) → Whole P f → N ns → Kept P N (next_number f ns b)
-  next_number_keeps f ns b h n =
-      cond_both (eqb b 32) _ _ (Kept P N) (λ _. (h, n)) (λ _. cond_both (eqb b 41) _ _ (Kept P N) (λ _. item_more f (numbers ns) h (k.list ns n)) (λ _. tt))
+  next_number_keeps f ns b h n = grind (arith, item_more, k.list)
 
   pub step_keeps : (s : State) (b : ℕ) → Keeps P N s → (is_digit b ≡ false → Passed Ended Listed s) → Kept P N (step s b)
-  step_keeps before b h p = cond_both (eqb b 40) _ _ (Kept P N) (λ _. (omega arith, refl)) (λ _. tt)
-  step_keeps (in_word w) b h p =
-      cond_both (is_letter b) _ _ (Kept P N)
-      (λ l. cond_both (ltb (length w) 8) _ _ (Kept P N) (λ e. (omega (arith, ltb-true (length w) 8 e, length_push w b), all_more is_letter w b h.1 l)) (λ _. tt))
-      (λ _. cond_both (ltb 0 (length w)) _ _ (Kept P N) (λ e. next_item_keeps (form_of w) b ((ltb-true 0 (length w) e, h.0, h.1), tt)) (λ _. tt))
+  step_keeps before b h p = grind arith
+  step_keeps (in_word w) b h p = grind (arith, all_more, next_item_keeps, length_push)
   step_keeps (after_item f) b h p = next_item_keeps f b h
-  step_keeps (at_item f) b h p =
-      cond_both (is_digit b) _ _ (Kept P N) (λ d. (h, run_one b d)) (λ _. cond_both (eqb b 40) _ _ (Kept P N) (λ _. h) (λ _. tt))
+  step_keeps (at_item f) b h p = grind (arith, run_one)
   step_keeps (in_number f ds) b h p =
       cond_both (is_digit b) _ _ (Kept P N) (λ d. (h.0, run_more ds b h.1 d)) (λ d. next_item_keeps (with_item f (number ds)) b (item_more f (number ds) h.0 (k.item ds h.1 (p d))))
   step_keeps (at_list f) b h p =
       cond_both (is_digit b) _ _ (Kept P N) (λ d. (h, k.none, run_one b d)) (λ _. cond_both (eqb b 41) _ _ (Kept P N) (λ _. item_more f (numbers []) h (k.list [] k.none)) (λ _. tt))
-  step_keeps (at_number f ns) b h p = cond_both (is_digit b) _ _ (Kept P N) (λ d. (h.0, h.1, run_one b d)) (λ _. tt)
+  step_keeps (at_number f ns) b h p = grind (arith, run_one)
   step_keeps (in_list f ns ds) b h p =
       cond_both (is_digit b) _ _ (Kept P N) (λ d. (h.0, h.1, run_more ds b h.2 d)) (λ d. next_number_keeps f (ns ++ ds ∷ []) b h.0 (k.more ns ds h.1 h.2 (p d)))
-  step_keeps (closed f) b h p = cond_both (eqb b 10) _ _ (Kept P N) (λ _. h) (λ _. tt)
+  step_keeps (closed f) b h p = grind arith
 
 -- the strict rules: a run that has ended is a number, and at most the ninth of its list
 abbrev pub Short : List (List ℕ) → Type 0
@@ -185,44 +141,26 @@ passes before c r f rest e = (tt, e)
 passes (in_word w) c r f rest e = (tt, e)
 passes (after_item g) c r f rest e = (tt, e)
 passes (at_item g) c r f rest e = (tt, e)
-passes (in_number g ds) c r f rest e = go (is_number ds) e
-  where
-    go : (v : Bool) → cond v r (faulted 21 (c - length ds)) ≡ form_read f rest → (v ≡ true) × (r ≡ form_read f rest)
-    go true h = (refl, h)
-    go false h = absurd (let z : ◌≡◌ {A = ℕ} 0 1 = cc in omega arith)
+passes (in_number g ds) c r f rest e = grind arith
 passes (at_list g) c r f rest e = (tt, e)
 passes (at_number g ns) c r f rest e = (tt, e)
-passes (in_list g ns ds) c r f rest e = let t = go (is_number ds) (ltb (length ns) 9) e in ((t.0, ltb-true (length ns) 9 t.1), t.2)
-  where
-    go : (v u : Bool) → cond v (cond u r (faulted 22 (c - length ds))) (faulted 21 (c - length ds)) ≡ form_read f rest → (v ≡ true) × (u ≡ true) × (r ≡ form_read f rest)
-    go true true h = (refl, refl, h)
-    go true false h = absurd (let z : ◌≡◌ {A = ℕ} 0 1 = cc in omega arith)
-    go false u h = absurd (let z : ◌≡◌ {A = ℕ} 0 1 = cc in omega arith)
+passes (in_list g ns ds) c r f rest e = grind arith
 passes (closed g) c r f rest e = (tt, e)
 
 never_faulted : (k c : ℕ) (f : Form) (rest : List ℕ) → faulted k c ≡ form_read f rest → ⊥
-never_faulted k c f rest e = let z : ◌≡◌ {A = ℕ} 0 1 = cc in omega arith
+never_faulted k c f rest e = cc
 
 -- what a byte that leads to a form has passed
 pub passed_on : (s : State) (c b : ℕ) (bs : List ℕ) (f : Form) (rest : List ℕ) → run s c (b ∷ bs) ≡ form_read f rest → (is_digit b ≡ false → Passed Number Ninth s) × (then-run (step s b) c bs ≡ form_read f rest)
-passed_on s c b bs f rest e = go (is_digit b) e
-  where
-    go : (d : Bool) → cond d (then-run (step s b) c bs) (judged s c (then-run (step s b) c bs)) ≡ form_read f rest → (d ≡ false → Passed Number Ninth s) × (then-run (step s b) c bs ≡ form_read f rest)
-    go true h = (λ no_digit. absurd (let z : ◌≡◌ {A = ℕ} 0 1 = cc in omega arith), h)
-    go false h = let t = passes s c _ f rest h in (λ _. t.0, t.1)
+passed_on s c b bs f rest e = grind (arith, passes)
 
 abbrev Ends : State → List ℕ → Form → List ℕ → Type 0
 Ends s bs f rest = (spell f ++ rest ≡ so_far s ++ bs) × Proper f
 
 spelled_on : (s : State) (c b : ℕ) (bs : List ℕ) (f : Form) (rest : List ℕ) (x : Step) → Spells s b x → Kept ProperPiece Short x → then-run x c bs ≡ form_read f rest → ((t : State) → Sound t → run t (c + 1) bs ≡ form_read f rest → Ends t bs f rest) → Ends s (b ∷ bs) f rest
-spelled_on s c b bs f rest (goes t) is kept e on =
-    let r = on t kept e in
-    (r.0 ∙ ap (λ l. l ++ bs) is ∙ append_assoc (so_far s) (b ∷ []) bs, r.1)
-spelled_on s c b bs f rest (ends g) is kept e on =
-    let same : g ≡ f = cc in
-    let left : bs ≡ rest = cc in
-    (ap (λ h. spell h ++ rest) (sym same) ∙ ap (λ l. spell g ++ l) (sym left) ∙ ap (λ l. l ++ bs) is ∙ append_assoc (so_far s) (b ∷ []) bs, subst Proper same kept)
-spelled_on s c b bs f rest refuses is kept e on = absurd (never_faulted 20 c f rest e)
+spelled_on s c b bs f rest (goes t) is kept e on = grind (arith, append_assoc)
+spelled_on s c b bs f rest (ends g) is kept e on = grind (arith, append_assoc)
+spelled_on s c b bs f rest refuses is kept e on = cc
 
 run_spells : (bs : List ℕ) (s : State) (c : ℕ) (f : Form) (rest : List ℕ) → Sound s → run s c bs ≡ form_read f rest → Ends s bs f rest
 run_spells [] s c f rest h e = absurd (never_faulted 20 c f rest (passes s c _ f rest e).1)

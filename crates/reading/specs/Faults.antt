@@ -1,7 +1,7 @@
 -- What a fault says of the line's bytes. Assumes nothing.
-use Rattle.std.specs.Prelude.{◌≡◌, ℕ, ◌+◌, ◌≤◌, false, ◌⊎◌, List, [], ◌∷◌, ◌++◌, length}
+use Rattle.std.specs.Prelude.{◌≡◌, ℕ, ◌+◌, ◌≤◌, true, false, ◌⊎◌, List, [], ◌∷◌, ◌++◌, length}
 use Rattle.std.specs.List.{flat_map}
-use Rattle.reading.specs.Forms.{Form, is_digit, is_number, begins, opened, spell, Each, Number, Run, Proper, Loose}
+use Rattle.reading.specs.Forms.{Form, is_letter, is_digit, is_number, all, begins, opened, spell, Each, Number, Run, Proper, Loose}
 use Rattle.reading.specs.Read.{State, before, in_word, after_item, at_item, in_number, at_list, at_number, in_list, closed, faulted, read}
 
 -- numbers with a space behind each
@@ -23,7 +23,7 @@ so_far (closed f) = opened f ++ 41 ∷ []
 -- each run of digits so far is a number, and no list so far has a tenth
 abbrev pub CleanState : State → Type 0
 CleanState before = Unit {0}
-CleanState (in_word w) = Unit {0}
+CleanState (in_word w) = all is_letter w ≡ true
 CleanState (after_item f) = Proper f
 CleanState (at_item f) = Proper f
 CleanState (in_number f ds) = Proper f × Number ds
@@ -49,14 +49,32 @@ abbrev pub WrongByte : List ℕ → List ℕ → Type 0
 WrongByte front [] = Unit {0}
 WrongByte front (b ∷ bs) = Begins (front ++ b ∷ []) → ⊥
 
+-- a number's first digit may come next
+abbrev pub AwaitsNumber : State → Type 0
+AwaitsNumber before = ⊥
+AwaitsNumber (in_word w) = ⊥
+AwaitsNumber (after_item f) = ⊥
+AwaitsNumber (at_item f) = Unit {0}
+AwaitsNumber (in_number f ds) = ⊥
+AwaitsNumber (at_list f) = Unit {0}
+AwaitsNumber (at_number f ns) = Unit {0}
+AwaitsNumber (in_list f ns ds) = ⊥
+AwaitsNumber (closed f) = ⊥
+
+abbrev pub AtNumber : List ℕ → Type 0
+AtNumber bytes = (s : State) × (so_far s ≡ bytes) × CleanState s × AwaitsNumber s
+
 -- a whole run of digits, in a number's place, that is no number
 abbrev pub WrongDigits : List ℕ → List ℕ → Type 0
-WrongDigits front bs = (ds after : List ℕ) × (ds ++ after ≡ bs) × Run ds × (is_number ds ≡ false) × (begins is_digit after ≡ false) × Inside (front ++ ds)
+WrongDigits front bs =
+    (ds after : List ℕ) × (ds ++ after ≡ bs) × Run ds × (is_number ds ≡ false) × (begins is_digit after ≡ false) × Inside (front ++ ds)
+    × AtNumber front
 
 -- a number, behind nine others of its list
 abbrev pub Tenth : List ℕ → List ℕ → Type 0
 Tenth front bs =
-    (f : Form) × (ns : List (List ℕ)) × (ds after : List ℕ) × (opened f ++ 32 ∷ 40 ∷ lead ns ≡ front) × (length ns ≡ 9) × (ds ++ after ≡ bs) × Number ds × (begins is_digit after ≡ false)
+    (f : Form) × (ns : List (List ℕ)) × (ds after : List ℕ) × Proper f × Each Number ns × (opened f ++ 32 ∷ 40 ∷ lead ns ≡ front)
+    × (length ns ≡ 9) × (ds ++ after ≡ bs) × Number ds × (begins is_digit after ≡ false)
 
 -- The bytes before the column, front, are inside a loose line and clean, so that no fault lies to the left, and at the column the cause is there.
 abbrev pub Leftmost : List ℕ → ℕ → ℕ → Type 0

@@ -2,7 +2,6 @@ pub mod Forms
 pub mod Read
 pub mod Laws
 pub mod Faults
-pub mod Class
 pub mod Told
 pub mod Steps
 pub mod Line

@@ -18,7 +18,7 @@ LineRead bytes line ts rest = (f : Form) × (read bytes ≡ form_read f rest) ×
 
 -- the fault is the one at which the reading of the bytes ends
 abbrev pub LineRefused : List ℕ → ℕ → ReadError → Type 0
-LineRefused bytes line (Fault e) = (read bytes ≡ faulted (cause_number e.cause) e.column) × (e.line ≡ line)
+LineRefused bytes line (Fault e) = (read bytes ≡ faulted (cause_number e.cause) e.place.column) × (e.place.line ≡ line)
 LineRefused bytes line TooLong = most_left < line + length bytes
 LineRefused bytes line NoMemory = Unit {0}
 
@@ -39,7 +39,7 @@ line_answer bytes line = cond (nat_lt most_left (line + length bytes)) too_long 
 
 -- what the code's error says; want of memory says nothing
 abbrev pub error_told : ReadError → Option LineAnswer
-error_told (Fault e) = Some (line_fault (cause_number e.cause) e.line e.column)
+error_told (Fault e) = Some (line_fault (cause_number e.cause) e.place.line e.place.column)
 error_told TooLong = Some too_long
 error_told NoMemory = None
 

@@ -18,9 +18,9 @@ pub data Told : Type 0 where
   list_at : (bytes : List ℕ) (line column : ℕ) → Told
 
 abbrev pub told : Token → Told
-told (Word p) = word_at p.bytes.now p.line p.column
-told (Number p) = number_at p.bytes.now p.line p.column
-told (Listed p) = list_at p.bytes.now p.line p.column
+told (Word p) = word_at p.bytes.now p.place.line p.place.column
+told (Number p) = number_at p.bytes.now p.place.line p.place.column
+told (Listed p) = list_at p.bytes.now p.place.line p.place.column
 
 abbrev pub piece_at : ℕ → ℕ → Piece → Told
 piece_at line column (number ds) = number_at ds line column

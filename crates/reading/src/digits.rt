@@ -1,35 +1,9 @@
-// Runs of bytes of one class, and the value of a run of digits.
+// The value of a run of digits.
 ghost use Rattle.std.specs.Prelude.{◌≡◌};
-ghost use Rattle.reading.specs.Forms.{front, small_value, number_value};
-ghost use Rattle.reading.specs.Class.{in_class};
+ghost use Rattle.reading.specs.Forms.{small_value, number_value};
 
-#[derive(Clone, Copy)]
-pub enum Class {
-    Letter,
-    Digit,
-}
-
-impl Class {
-    fn has(self, b: u8) -> bool
-        ensures { result ≡ in_class self b }
-    {
-        match self {
-            Class::Letter => b >= b'a' && b <= b'z',
-            Class::Digit => b >= b'0' && b <= b'9',
-        }
-    }
-}
-
-// How many bytes at the front are of the class.
-pub(crate) fn run_len(bytes: &[u8], class: Class) -> usize
-    ensures { result ≡ front (in_class class) bytes.now }
-{
-    let mut n = 0;
-    while n < bytes.len() && class.has(bytes[n]) {
-        n += 1;
-    }
-    n
-}
+// the most digits that a number may have
+const MOST_DIGITS: usize = 10;
 
 // The decimal value, where all are digits and it fits.
 fn decimal_value(digits: &[u8]) -> Option<u32>
@@ -37,14 +11,8 @@ fn decimal_value(digits: &[u8]) -> Option<u32>
 {
     let mut value: u32 = 0;
     for b in digits {
-        if !Class::Digit.has(*b) {
-            return None;
-        }
-        let next = value as u64 * 10 + (*b - b'0') as u64;
-        if next > 0xffff_ffff {
-            return None;
-        }
-        value = next as u32;
+        let digit = char::from(*b).to_digit(10)?;
+        value = value.checked_mul(10)?.checked_add(digit)?;
     }
     Some(value)
 }
@@ -53,11 +21,9 @@ fn decimal_value(digits: &[u8]) -> Option<u32>
 pub fn value(digits: &[u8]) -> Option<u32>
     ensures { result ≡ number_value digits.now }
 {
-    if digits.is_empty() || digits.len() > 10 {
-        return None;
+    match digits {
+        [] | [b'0', _, ..] => None,
+        _ if digits.len() > MOST_DIGITS => None,
+        _ => decimal_value(digits),
     }
-    if digits.len() > 1 && digits[0] == b'0' {
-        return None;
-    }
-    decimal_value(digits)
 }

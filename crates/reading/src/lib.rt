@@ -11,7 +11,7 @@ pub mod token;
 pub use digits::value;
 pub use parts::MOST_NUMBERS;
 pub use reader::Reader;
-pub use token::{Cause, Part, ReadError, ReadFault, Token};
+pub use token::{Cause, Part, Place, ReadError, ReadFault, Token};
 
 // The most bytes that a sheet may have.
 pub const MOST_BYTES: usize = 65_536;
@@ -22,24 +22,29 @@ mod tests {
     use crate::token::ReadError;
     use std::alloc::Global;
 
-    // The cause and the column of the first line's fault; (0, n) where the line has n tokens.
-    fn outcome(heap: Global, sheet: &[u8]) -> (u32, usize) {
-        let mut reader = Reader::new(sheet);
-        match reader.read_line(heap) {
-            Ok(tokens) => (0, tokens.len()),
-            Err(ReadError::Fault(fault)) => (fault.cause.number(), fault.column as usize),
-            Err(_) => (1, 0),
+    // How many tokens the first line has, or the cause and the column of its fault, if it is one of the line's.
+    fn outcome(heap: Global, sheet: &[u8]) -> Result<usize, Option<(u32, u32)>> {
+        match Reader::new(sheet).read_line(heap) {
+            Ok(tokens) => Ok(tokens.len()),
+            Err(ReadError::Fault(fault)) => Err(Some((fault.cause.number(), fault.place.column))),
+            Err(_) => Err(None),
         }
     }
 
     #[test]
     fn lines(rt: HostRuntime) {
         let heap = rt.alloc();
-        assert_eq!(rt; outcome(heap, b"(enter 12 () (3 4))\n"), (0, 4));
-        assert_eq!(rt; outcome(heap, b"(enter 00x"), (21, 8));
-        assert_eq!(rt; outcome(heap, b"(enter 4"), (20, 9));
-        assert_eq!(rt; outcome(heap, b"(enterings)\n"), (20, 10));
-        assert_eq!(rt; outcome(heap, b"(a (1 2 3 4 5 6 7 8 9 10x"), (22, 23));
-        assert_eq!(rt; outcome(heap, b"(a (1 2 3 4 5 6 7 8 9 010"), (21, 23));
+        assert_eq!(rt; outcome(heap, b"(enter 12 () (3 4))\n"), Ok(4));
+        assert_eq!(rt; outcome(heap, b"(enter 00x"), Err(Some((21, 8))));
+        assert_eq!(rt; outcome(heap, b"(enter 4"), Err(Some((20, 9))));
+        assert_eq!(rt; outcome(heap, b"(enterings)\n"), Err(Some((20, 10))));
+        assert_eq!(rt;
+            outcome(heap, b"(a (1 2 3 4 5 6 7 8 9 10x"),
+            Err(Some((22, 23)))
+        );
+        assert_eq!(rt;
+            outcome(heap, b"(a (1 2 3 4 5 6 7 8 9 010"),
+            Err(Some((21, 23)))
+        );
     }
 }

@@ -3,9 +3,12 @@ ghost use Rattle.std.specs.Prelude.{◌≡◌, MatchResult};
 ghost use Rattle.reading.specs.Steps.{WordRead, NumberRead, ListRead, ItemRead, TokensRead, LineFaults};
 
 use crate::cursor::Cursor;
-use crate::digits::{Class, run_len, value};
+use crate::digits::value;
 use crate::token::{Cause, Part, ReadError, ReadFault, Token};
 use std::alloc::Global;
+
+// the most letters that a word may have
+const MOST_LETTERS: usize = 8;
 
 // the most numbers that a list may have
 pub const MOST_NUMBERS: usize = 9;
@@ -15,31 +18,30 @@ impl<'a> Cursor<'a> {
     pub(crate) fn word(&mut self) -> Result<Part<'a>, ReadFault>
         ensures { WordRead self.old self.new result }
     {
-        let n = run_len(self.rest, Class::Letter);
-        if n == 0 {
-            return Err(self.fault(Cause::Byte));
+        let letters = self.rest.iter().take_while(|b| b.is_ascii_lowercase());
+        match letters.count() {
+            0 => Err(self.fault(Cause::Byte)),
+            n @ 1..=MOST_LETTERS => Ok(self.advance(n)),
+            _ => {
+                // the first letter that is too many is the fault
+                self.advance(MOST_LETTERS);
+                Err(self.fault(Cause::Byte))
+            }
         }
-        if n > 8 {
-            let _full = self.advance(8);
-            return Err(self.fault(Cause::Byte));
-        }
-        Ok(self.advance(n))
     }
 
     // A run of digits that is a number.
     pub(crate) fn number(&mut self) -> Result<Part<'a>, ReadFault>
         ensures { NumberRead self.old self.new result }
     {
-        let n = run_len(self.rest, Class::Digit);
+        let n = self.rest.iter().take_while(|b| b.is_ascii_digit()).count();
         if n == 0 {
             return Err(self.fault(Cause::Byte));
         }
-        let start = *self;
-        let digits = self.advance(n);
-        if value(digits.bytes).is_none() {
-            return Err(start.fault(Cause::Digits));
+        if value(&self.rest[..n]).is_none() {
+            return Err(self.fault(Cause::Digits));
         }
-        Ok(digits)
+        Ok(self.advance(n))
     }
 
     // A list from behind its "(" to its ")": at most nine numbers, with a space between them.
@@ -50,14 +52,14 @@ impl<'a> Cursor<'a> {
             return Ok(());
         }
         for _count in 0..MOST_NUMBERS {
-            let _number = self.number()?;
+            self.number()?;
             if !self.skip(b' ') {
                 return self.expect(b')');
             }
         }
         // nine numbers and a space: a tenth that is no number is the fault of its digits
         let tenth = *self;
-        let _number = self.number()?;
+        self.number()?;
         Err(tenth.fault(Cause::TenthNumber))
     }
 
@@ -66,11 +68,12 @@ impl<'a> Cursor<'a> {
         ensures { ItemRead self.old self.new result }
     {
         let start = *self;
-        if !self.skip(b'(') {
-            return Ok(Token::Number(self.number()?));
+        if self.skip(b'(') {
+            self.numbers()?;
+            Ok(Token::List(start.up_to(self)))
+        } else {
+            Ok(Token::Number(self.number()?))
         }
-        self.numbers()?;
-        Ok(Token::List(start.up_to(self)))
     }
 
     // The whole line, with the byte that ends it.

@@ -5,7 +5,7 @@ ghost use Rattle.reading.specs.Laws.{ReadSpells, ProperIsRead};
 ghost use Rattle.reading.specs.Line.{LineRead, LineRefused, most_left, AsDefined, answer_told, line_answer};
 
 use crate::cursor::Cursor;
-use crate::token::{ReadError, Token};
+use crate::token::{Place, ReadError, Token};
 use std::alloc::Global;
 
 // The most that the bytes that are left and the number of their first line come to: a sheet has at most 65,536 bytes, and each
@@ -41,11 +41,7 @@ impl<'a> Reader<'a> {
     pub fn next_line(&self) -> Option<u32>
         ensures { result ≡ (if nat_eq (length self.now.rest.now) 0 then None else Some self.now.line) }
     {
-        if self.is_at_end() {
-            None
-        } else {
-            Some(self.line)
-        }
+        (!self.is_at_end()).then_some(self.line)
     }
 
     // Reads the next line: its tokens, the word first, or its leftmost fault, after which the
@@ -59,13 +55,15 @@ impl<'a> Reader<'a> {
         ensures complete { ProperIsRead }
         ensures leftmost { FaultIsLeftmost }
     {
-        if self.rest.len() > MOST || self.line as usize > MOST - self.rest.len() {
+        if self.rest.len() + self.line as usize > MOST {
             return Err(ReadError::TooLong);
         }
         let mut at = Cursor {
             rest: self.rest,
-            line: self.line,
-            column: 1,
+            place: Place {
+                line: self.line,
+                column: 1,
+            },
         };
         let tokens = at.tokens(heap)?;
         self.rest = at.rest;

@@ -5,16 +5,22 @@ ghost use Rattle.reading.specs.declared.token.ReadError.TheVariants.{Fault, NoMe
 
 use std::alloc::AllocFailed;
 
-// A stretch of the sheet, with the place of its first byte; lines and columns count from 1.
-#[derive(Clone, Copy)]
-pub struct Part<'a> {
-    pub bytes: &'a [u8],
+// Where a byte of the sheet stands; lines and columns count from 1.
+#[derive(Clone, Copy, Debug, PartialEq, Eq)]
+pub struct Place {
     pub line: u32,
     pub column: u32,
 }
 
+// A stretch of the sheet, with the place of its first byte.
+#[derive(Clone, Copy, Debug, PartialEq, Eq)]
+pub struct Part<'a> {
+    pub bytes: &'a [u8],
+    pub place: Place,
+}
+
 // A word, a number or a list; a list's bytes have its parentheses.
-#[derive(Clone, Copy)]
+#[derive(Clone, Copy, Debug, PartialEq, Eq)]
 pub enum Token<'a> {
     Word(Part<'a>),
     Number(Part<'a>),
@@ -23,28 +29,28 @@ pub enum Token<'a> {
 
 // Why a line is refused: a byte that the line's rule does not allow, or the sheet's end inside a line; a run of digits that is no
 // number; a tenth number in a list.
-#[derive(Clone, Copy)]
+#[derive(Clone, Copy, Debug, PartialEq, Eq)]
 pub enum Cause {
     Byte = 20,
     Digits = 21,
     TenthNumber = 22,
 }
 
-#[derive(Clone, Copy)]
+#[derive(Clone, Copy, Debug, PartialEq, Eq)]
 pub struct ReadFault {
-    pub line: u32,
-    pub column: u32,
+    pub place: Place,
     pub cause: Cause,
 }
 
 // `TooLong` is a sheet of more than 65,536 bytes.
-#[derive(Drop)]
+#[derive(Clone, Copy, Debug, PartialEq, Eq)]
 pub enum ReadError {
     Fault(ReadFault),
     TooLong,
     NoMemory,
 }
 
+// Both by hand, since the contracts name the error that a `?` makes, of which a derived `From` says nothing.
 impl From<ReadFault> for ReadError {
     ghost from_gives = { λ x r. r ≡ Fault x };
 
@@ -62,6 +68,7 @@ impl<T: Drop> From<AllocFailed<T>> for ReadError {
 }
 
 impl Cause {
+    // The number of the cause in the rules, which a sheet writes.
     pub fn number(self) -> u32
         ensures { result ≡ cause_number self }
     {

@@ -1,21 +1,13 @@
-use Rattle.std.proofs.Common.{◌+◌, sym, arith}
-use Rattle.reading.proofs.Fronts.{dec_bad, dec_step, dec_big, dec_end}
+use Rattle.std.proofs.Common.{◌∙◌, arith}
+use Rattle.reading.proofs.Fronts.{dec_big}
 use Rattle.reading.proofs.digits.decimal_value.Goals as goal
 
-kept : {A B C : Type 0} → A × B × C → A × B
-kept i = (i.0, i.1)
+pub returns-in_err-checked_mul : goal.returns-in_err-checked_mul
+returns-in_err-checked_mul c =
+    c.from_residual-in_err-checked_mul.ensures
+    ∙ dec_big c.args.digits.now c.loop-b.b-index c.loop-b.value c.loop-b.invariant.whole (omega arith) (omega (arith, c.in_err-checked_mul.ensures))
 
-pub returns-then-not-has : goal.returns-then-not-has
-returns-then-not-has c = dec_bad c.args.digits.now c.loop-b.b-index c.loop-b.value (kept c.loop-b.invariant) (omega arith) (sym c.if-not-has.ensures)
-
-pub returns-then-next-gt4294967295 : goal.returns-then-next-gt4294967295
-returns-then-next-gt4294967295 c =
-    dec_big c.args.digits.now (c.loop-b.b-index + 1) _ (dec_step c.args.digits.now c.loop-b.b-index c.loop-b.value (kept c.loop-b.invariant) (omega arith) (sym c.if-not-has.ensures)) (omega arith)
-
-pub loop-b-preserved : goal.loop-b-preserved
-loop-b-preserved c =
-    let more = dec_step c.args.digits.now c.loop-b.b-index c.loop-b.value (kept c.loop-b.invariant) (omega arith) (sym c.if-not-has.ensures) in
-    (more.0, more.1, omega arith)
-
-pub returns : goal.returns
-returns c = dec_end c.args.digits.now c.loop-b.b-index c.loop-b.value (kept c.loop-b.invariant) (omega arith) (omega arith)
+pub returns-in_err-value : goal.returns-in_err-value
+returns-in_err-value c =
+    c.from_residual-in_err-value.ensures
+    ∙ dec_big c.args.digits.now c.loop-b.b-index c.loop-b.value c.loop-b.invariant.whole (omega arith) (grind arith)
