@@ -25,10 +25,14 @@ unfolding answered
 answered_is (Some order) = refl
 answered_is None = refl
 
-pub asked : (ts rest : List Token) (p : Part) (w : Word) (o : Option Ordered) → ts ≡ Worded p ∷ rest → Some w ≡ word_of p.bytes.now → order_meant o ≡ asks w (items_of rest) → judged_meant (ok_or o WrongItems) ≡ judged (map told ts)
+known : (w : Word) (o : Option Word) → ◌≡◌ {A = Result Word FormFault} (Ok w) (ok_or o UnknownWord) → Some w ≡ o
+known w (Some v) e = cc
+known w None e = cc
+
+pub asked : (ts rest : List Token) (p : Part) (w : Word) (o : Option Ordered) → ts ≡ Worded p ∷ rest → Ok w ≡ ok_or (word_of p.bytes.now) UnknownWord → order_meant o ≡ asks w (items_of rest) → judged_meant (ok_or o WrongItems) ≡ judged (map told ts)
 unfolding answered
-asked ts rest p w o is known asks_is =
+asked ts rest p w o is word_is asks_is =
     answered_is o
     ∙ ap answered (asks_is ∙ ap (asks w) (sym (told_items rest)))
-    ∙ ap (λ k. elim k [ Some word ↦ answered (asks word (map item_of (map told rest))) | None ↦ Err UnknownWord ]) known
+    ∙ ap (λ k. elim k [ Some word ↦ answered (asks word (map item_of (map told rest))) | None ↦ Err UnknownWord ]) (known w (word_of p.bytes.now) word_is)
     ∙ ap (λ l. judged (map told l)) (sym is)

@@ -1,4 +1,3 @@
 pub mod Asked
-pub mod Places
 pub mod Taking
 pub mod Valued

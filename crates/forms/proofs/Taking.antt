@@ -1,14 +1,69 @@
--- The steps of the loop that takes a list's numbers: the numbers so far, and the values that are left. Assumes nothing.
-use Rattle.std.proofs.Common.{◌≡◌, ℕ, suc, ◌+◌, ◌-◌, ◌<◌, ◌≤◌, cond, ltb, leb, List, [], ◌∷◌, ◌++◌, length, get_or, take, drop, Some, None, Option, sym, refl, ap, ◌∙◌, ap₂, append_assoc, arith}
-use Rattle.std.proofs.lemmas.List.{at_drop_more, at_drop_all, take_more, get_or-drop, length-drop, length-append, length_push}
-use Rattle.std.proofs.lemmas.Bool.{cond-true, cond-false, cond_both, eq-eqb, ne_eqb, lt-leb, ltb-false}
+-- The turns of the loop that takes a list's numbers: those so far, and the values of the parts that are left. Assumes nothing.
+use Rattle.std.proofs.Common.{◌≡◌, ℕ, ◌+◌, ◌<◌, ◌≤◌, cond, eqb, leb, ltb, List, [], ◌∷◌, ◌++◌, length, get_or, drop, Some, None, Option, sym, refl, ap, ◌∙◌, ap₂, append_assoc, append-nil, arith}
+use Rattle.std.proofs.lemmas.List.{at_drop_more, at_drop_all, length-append}
+use Rattle.std.proofs.lemmas.List.Splits.{length-slice_split}
+use Rattle.std.proofs.lemmas.Bool.{cond_both, cond-false, cond-true, lt-leb, le-leb, ltb-false}
+use Rattle.std.specs.List.{slice_split, onto_first}
 use Rattle.reading.specs.Forms.{number_value}
 use Rattle.forms.specs.Lists.{value_then, spaced_values, at_most_nine}
+
+-- the bytes, cut at each space
+abbrev pub parts : List ℕ → List (List ℕ)
+parts bytes = slice_split (λ b. eqb b 32) bytes
+
+abbrev pub values : List (List ℕ) → Option (List ℕ)
+values [] = Some []
+values (part ∷ rest) = value_then (number_value part) (values rest)
+
+-- the parts, with digits in front of the first
+abbrev with_front : List ℕ → List (List ℕ) → List (List ℕ)
+with_front ds [] = ds ∷ []
+with_front ds (part ∷ rest) = (ds ++ part) ∷ rest
+
+no_front : (ps : List (List ℕ)) → 0 < length ps → with_front [] ps ≡ ps
+no_front [] h = absurd (omega arith)
+no_front (part ∷ rest) h = refl
+
+one_more : (ds : List ℕ) (b : ℕ) (ps : List (List ℕ)) → with_front (ds ++ b ∷ []) ps ≡ with_front ds (onto_first b ps)
+one_more ds b [] = refl
+one_more ds b (part ∷ rest) = ap (λ l. l ∷ rest) (append_assoc ds (b ∷ []) part)
+
+some_part : (bytes : List ℕ) → 0 < length (parts bytes)
+some_part bytes = omega (arith, length-slice_split (λ b. eqb b 32) bytes)
+
+-- the values of numbers with a space between them are those of the parts
+values_of_parts : (ds bytes : List ℕ) → spaced_values ds bytes ≡ values (with_front ds (parts bytes))
+values_of_parts ds [] = ap (λ l. value_then (number_value l) (Some [])) (sym (append-nil ds))
+values_of_parts ds (b ∷ bs) =
+    cond_both (eqb b 32) _ _
+    (λ o. o ≡ values (with_front ds (cond (eqb b 32) ([] ∷ parts bs) (onto_first b (parts bs)))))
+    (λ yes.
+    ap₂ (λ l o. value_then (number_value l) o) (sym (append-nil ds)) (values_of_parts [] bs ∙ ap values (no_front (parts bs) (some_part bs)))
+    ∙ sym (ap (λ ps. values (with_front ds ps)) (cond-true _ _ _ yes)))
+    (λ no.
+    values_of_parts (ds ++ b ∷ []) bs ∙ ap values (one_more ds b (parts bs))
+    ∙ sym (ap (λ ps. values (with_front ds ps)) (cond-false _ _ _ no)))
 
 -- values, and those behind them
 abbrev pub behind : List ℕ → Option (List ℕ) → Option (List ℕ)
 behind xs (Some vs) = Some (xs ++ vs)
 behind xs None = None
+
+-- the numbers xs and the parts from the place on give all the values
+abbrev pub Leaves : List ℕ → List ℕ → ℕ → Type 0
+Leaves bytes xs place = behind xs (values (drop place (parts bytes))) ≡ spaced_values [] bytes
+
+none_behind : (o : Option (List ℕ)) → behind [] o ≡ o
+none_behind (Some vs) = refl
+none_behind None = refl
+
+pub leaves_all : (bytes xs : List ℕ) → xs ≡ [] → Leaves bytes xs 0
+leaves_all bytes xs none =
+    ap (λ l. behind l (values (parts bytes))) none
+    ∙ none_behind (values (parts bytes)) ∙ ap values (sym (no_front (parts bytes) (some_part bytes))) ∙ sym (values_of_parts [] bytes)
+
+pub leaves_at : (bytes : List ℕ) {xs ys : List ℕ} {place next : ℕ} → ys ≡ xs → next ≡ place → Leaves bytes xs place → Leaves bytes ys next
+leaves_at bytes p q h = ap₂ (λ l n. behind l (values (drop n (parts bytes)))) p q ∙ h
 
 behind_one : (xs : List ℕ) (v : ℕ) (o : Option (List ℕ)) → behind xs (value_then (Some v) o) ≡ behind (xs ++ v ∷ []) o
 behind_one xs v (Some vs) = ap Some (sym (append_assoc xs (v ∷ []) vs))
@@ -21,57 +76,36 @@ tenth xs (Some v) (Some vs) h =
 tenth xs (Some v) None h = refl
 tenth xs None p h = refl
 
--- the bytes from start to i
-abbrev pub run : List ℕ → ℕ → ℕ → List ℕ
-run bytes start i = take (i - start) (drop start bytes)
+-- a turn at the part in the place
+module _ (bytes xs : List ℕ) (place : ℕ) (part : List ℕ) (turn : (place < length (parts bytes)) × (part ≡ get_or (parts bytes) place part)) (inv : Leaves bytes xs place) where
+  rest : Option (List ℕ)
+  rest = values (drop (place + 1) (parts bytes))
 
--- the numbers xs and what is left at i give all the values
-abbrev pub Leaves : List ℕ → List ℕ → ℕ → ℕ → Type 0
-Leaves bytes xs start i = behind xs (spaced_values (run bytes start i) (drop i bytes)) ≡ spaced_values [] bytes
+  left : behind xs (value_then (number_value part) rest) ≡ spaced_values [] bytes
+  unfolding rest
+  left =
+      ap (λ p. behind xs (value_then (number_value p) rest)) turn.1
+      ∙ sym (at_drop_more (λ l. behind xs (values l)) (parts bytes) place part turn.0) ∙ inv
 
-pub leaves_at : (bytes : List ℕ) (i : ℕ) {xs ys : List ℕ} {start from : ℕ} → ys ≡ xs → from ≡ start → Leaves bytes xs start i → Leaves bytes ys from i
-leaves_at bytes i p q h = ap₂ (λ l s. behind l (spaced_values (run bytes s i) (drop i bytes))) p q ∙ h
+  pub no_number : None ≡ number_value part → None ≡ at_most_nine (spaced_values [] bytes)
+  no_number e = ap at_most_nine (ap (λ o. behind xs (value_then o rest)) e ∙ left)
 
-run_more : (bytes : List ℕ) (start i : ℕ) → start ≤ i → i < length bytes → run bytes start (i + 1) ≡ run bytes start i ++ get_or bytes i 0 ∷ []
-run_more bytes start i s h =
-    let size = length-drop start bytes in
-    let one : i + 1 - start ≡ i - start + 1 = omega arith in
-    let at : start + (i - start) ≡ i = omega arith in
-    ap (λ n. take n (drop start bytes)) one
-    ∙ take_more (drop start bytes) (i - start) 0 (omega arith)
-    ∙ ap (λ b. run bytes start i ++ b ∷ []) (get_or-drop start bytes (i - start) 0 ∙ ap (λ k. get_or bytes k 0) at)
+  pub no_room : 9 ≤ length xs → None ≡ at_most_nine (spaced_values [] bytes)
+  no_room full = sym (tenth xs (number_value part) rest full) ∙ ap at_most_nine left
 
--- a turn at the byte i
-module _ (xs bytes : List ℕ) (start i : ℕ) (within : i < length bytes) (inv : Leaves bytes xs start i) where
-  left : behind xs (spaced_values (run bytes start i) (get_or bytes i 0 ∷ drop (i + 1) bytes)) ≡ spaced_values [] bytes
-  left = sym (at_drop_more (λ l. behind xs (spaced_values (run bytes start i) l)) bytes i 0 within) ∙ inv
+  pub after_number : (v : ℕ) → Some v ≡ number_value part → Leaves bytes (xs ++ v ∷ []) (place + 1)
+  unfolding rest
+  after_number v e = sym (behind_one xs v rest) ∙ ap (λ o. behind xs (value_then o rest)) e ∙ left
 
-  pub inside_number : start ≤ i → (get_or bytes i 0 ≡ 32 → ⊥) → Leaves bytes xs start (i + 1)
-  inside_number s other =
-      ap (λ ds. behind xs (spaced_values ds (drop (i + 1) bytes))) (run_more bytes start i s within)
-      ∙ sym (ap (behind xs) (cond-false _ _ _ (ne_eqb (get_or bytes i 0) 32 other)))
-      ∙ left
+-- behind the last part
+pub all_taken : (bytes xs : List ℕ) (place : ℕ) → place ≡ length (parts bytes) → length xs ≤ 9 → Leaves bytes xs place → Some xs ≡ at_most_nine (spaced_values [] bytes)
+all_taken bytes xs place end few inv =
+    sym (cond-true (leb (length xs) 9) (Some xs) None (le-leb (length xs) 9 few))
+    ∙ ap (λ l. at_most_nine (Some l)) (sym (append-nil xs))
+    ∙ ap at_most_nine (sym (at_drop_all (λ l. behind xs (values l)) (parts bytes) place (omega arith)) ∙ inv)
 
-  module _ (space : get_or bytes i 0 ≡ 32) where
-    at_space : behind xs (value_then (number_value (run bytes start i)) (spaced_values [] (drop (i + 1) bytes))) ≡ spaced_values [] bytes
-    at_space = sym (ap (behind xs) (cond-true _ _ _ (eq-eqb (get_or bytes i 0) 32 space))) ∙ left
-
-    pub no_number : None ≡ number_value (run bytes start i) → at_most_nine (spaced_values [] bytes) ≡ None
-    no_number e = ap at_most_nine (sym at_space ∙ ap (λ o. behind xs (value_then o (spaced_values [] (drop (i + 1) bytes)))) (sym e))
-
-    pub no_room : 9 ≤ length xs → at_most_nine (spaced_values [] bytes) ≡ None
-    no_room full = ap at_most_nine (sym at_space) ∙ tenth xs (number_value (run bytes start i)) (spaced_values [] (drop (i + 1) bytes)) full
-
-    pub after_number : (v : ℕ) → Some v ≡ number_value (run bytes start i) → Leaves bytes (xs ++ v ∷ []) (i + 1) (i + 1)
-    after_number v e =
-        let none : i + 1 - (i + 1) ≡ 0 = omega arith in
-        ap (λ n. behind (xs ++ v ∷ []) (spaced_values (take n (drop (i + 1) bytes)) (drop (i + 1) bytes))) none
-        ∙ sym (behind_one xs v (spaced_values [] (drop (i + 1) bytes)))
-        ∙ ap (λ o. behind xs (value_then o (spaced_values [] (drop (i + 1) bytes)))) e
-        ∙ at_space
-
--- what one more number gives, where there is room for it and where there is none
-module _ (xs ys : List ℕ) where
+-- one number more, or none where there are nine
+module _ (xs : List ℕ) (ys : List ℕ) where
   pub was_full : None ≡ cond (ltb (length xs) 9) (Some ys) None → 9 ≤ length xs
   was_full =
       cond_both (ltb (length xs) 9) (Some ys) None (λ o. None ≡ o → 9 ≤ length xs)
@@ -83,20 +117,3 @@ module _ (xs ys : List ℕ) where
       cond_both (ltb (length xs) 9) (Some ys) None (λ o. Some zs ≡ o → zs ≡ ys)
       (λ _ e. cc)
       (λ _ e. absurd (let z : ◌≡◌ {A = ℕ} 0 1 = cc in omega arith))
-
--- behind the last byte
-module _ (xs bytes : List ℕ) (start i : ℕ) (all : length bytes ≡ i) (inv : Leaves bytes xs start i) where
-  at_end : behind xs (value_then (number_value (run bytes start (length bytes))) (Some [])) ≡ spaced_values [] bytes
-  at_end =
-      ap (λ n. behind xs (value_then (number_value (run bytes start n)) (Some []))) all
-      ∙ sym (at_drop_all (λ l. behind xs (spaced_values (run bytes start i) l)) bytes i (omega arith))
-      ∙ inv
-
-  pub no_last : None ≡ number_value (run bytes start (length bytes)) → at_most_nine (spaced_values [] bytes) ≡ None
-  no_last e = ap at_most_nine (sym at_end ∙ ap (λ o. behind xs (value_then o (Some []))) (sym e))
-
-  pub last : (v : ℕ) → Some v ≡ number_value (run bytes start (length bytes)) → cond (ltb (length xs) 9) (Some (xs ++ v ∷ [])) None ≡ at_most_nine (spaced_values [] bytes)
-  last v e =
-      let size : suc (length xs) ≡ length (xs ++ v ∷ []) = omega (arith, length_push xs v) in
-      ap (λ n. cond (leb n 9) (Some (xs ++ v ∷ [])) None) size
-      ∙ ap at_most_nine (ap (λ o. behind xs (value_then o (Some []))) e ∙ at_end)

@@ -1,6 +1,8 @@
 -- The faults of a form, with the numbers that the rules give them. Assumes nothing.
 use Rattle.std.specs.Prelude.{ℕ}
 use Rattle.sharing.specs.Causes.{cause_number}
+use Rattle.forms.specs.declared.fault.Layer.{Layer}
+use Rattle.forms.specs.declared.fault.Layer.TheVariants.{Reader, Form, Book}
 use Rattle.forms.specs.declared.fault.FormFault.{FormFault}
 use Rattle.forms.specs.declared.fault.FormFault.TheVariants.{UnknownWord, WrongItems, WrongKind, Refused}
 
@@ -10,6 +12,12 @@ own_layer = 2
 
 abbrev pub book_layer : ℕ
 book_layer = 3
+
+-- the layers by their numbers
+abbrev pub layer_number : Layer → ℕ
+layer_number Reader = 1
+layer_number Form = own_layer
+layer_number Book = book_layer
 
 abbrev pub form_layer : FormFault → ℕ
 form_layer UnknownWord = own_layer

@@ -1,28 +1,42 @@
 // Why a form does not run.
 ghost use Rattle.std.specs.Prelude.{◌≡◌};
-ghost use Rattle.forms.specs.Faults.{form_layer, form_column, form_cause};
+ghost use Rattle.forms.specs.Faults.{layer_number, form_layer, form_column, form_cause};
 ghost use Rattle.forms.specs.declared.fault.FormFault.TheVariants.{Refused};
 
 use sharing::Refusal;
+use thiserror::Error;
 
-// The layers of a form's own fault and of the book's refusal.
-pub const FORM_LAYER: u32 = 2;
+// What a fault is the fault of, with the number that the rules give it: the sheet's text, a form, or a call on the book.
+#[derive(Clone, Copy, Debug, PartialEq, Eq)]
+pub enum Layer {
+    Reader = 1,
+    Form = 2,
+    Book = 3,
+}
 
-pub const BOOK_LAYER: u32 = 3;
+impl Layer {
+    // The number of the layer in the rules, which a sheet writes.
+    pub fn number(self) -> u32
+        ensures { result ≡ layer_number self }
+    {
+        self as u32
+    }
+}
 
 // A form that asks for nothing that can be done, or that the book refuses, with the book's own refusal inside.
-#[derive(Clone, Copy)]
+#[derive(Clone, Copy, Debug, PartialEq, Eq, Error)]
 pub enum FormFault {
-    // 23: the word is none of the ten
+    #[error("the word is none of the ten")]
     UnknownWord,
-    // 24: the items are not those of the word
+    #[error("the items are not those of the word")]
     WrongItems,
-    // 25: the kind is missing, named again or none of the three
+    #[error("the kind is missing, named again or none of the three")]
     WrongKind,
-    // the book's refusal, with its own number
+    #[error("the book refuses the call: {0}")]
     Refused(Refusal),
 }
 
+// Written out, since a derived conversion says of no value which fault it becomes.
 impl From<Refusal> for FormFault {
     ghost from_gives = { λ x r. r ≡ Refused x };
 
@@ -32,13 +46,13 @@ impl From<Refusal> for FormFault {
 }
 
 impl FormFault {
-    // 2 for a form, 3 for the book's refusal.
-    pub fn layer(self) -> u32
-        ensures { result ≡ form_layer self }
+    // The form's own layer, or the book's for its refusal.
+    pub fn layer(self) -> Layer
+        ensures { layer_number result ≡ form_layer self }
     {
         match self {
-            FormFault::Refused(_) => BOOK_LAYER,
-            _ => FORM_LAYER,
+            FormFault::Refused(_) => Layer::Book,
+            _ => Layer::Form,
         }
     }
 
@@ -52,7 +66,7 @@ impl FormFault {
         }
     }
 
-    // The number of the cause in the rules.
+    // The number of the cause in the rules. No case has it as its own, since the book's refusal brings a number along.
     pub fn number(self) -> u32
         ensures { result ≡ form_cause self }
     {

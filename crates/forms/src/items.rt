@@ -1,74 +1,32 @@
 // The items of a form.
-ghost use Rattle.std.specs.Prelude.{◌≡◌};
+ghost use Rattle.std.specs.Prelude.{◌≡◌, [], ◌∷◌};
+ghost use Rattle.reading.specs.Told.{told};
 ghost use Rattle.forms.specs.Lists.{taken_in};
-ghost use Rattle.forms.specs.Orders.{items_of, number_at, list_at, asks_with, asks, order_meant};
-ghost use Rattle.forms.specs.declared.word.Word.TheVariants.{Enter, Sum, Scale, Begin};
+ghost use Rattle.forms.specs.Orders.{item_of, items_of, number_in, list_in, asks, order_meant};
 
 use crate::numbers::Numbers;
 use crate::order::Order;
 use crate::word::Word;
 use reading::{Token, value};
 
-// The value of the number that stands at the place, from 0.
-fn number(items: &[Token<'_>], place: usize) -> Option<u32>
-    ensures { result ≡ number_at (items_of items.now) place }
+// The value of an item that is a number.
+fn number(item: &Token<'_>) -> Option<u32>
+    ensures { result ≡ number_in (item_of (told item.now)) }
 {
-    match items.get(place)? {
+    match item {
         Token::Number(part) => value(part.bytes),
         _ => None,
     }
 }
 
-// The numbers of the list that stands at the place.
-fn list(items: &[Token<'_>], place: usize) -> Option<Numbers>
-    ensures { taken_in result ≡ list_at (items_of items.now) place }
+// The numbers of an item that is a list.
+fn list(item: &Token<'_>) -> Option<Numbers>
+    ensures { taken_in result ≡ list_in (item_of (told item.now)) }
 {
-    match items.get(place)? {
+    match item {
         Token::List(part) => Numbers::of(part.bytes),
         _ => None,
     }
-}
-
-// The orders of three items or more.
-fn enter(items: &[Token<'_>]) -> Option<Order>
-    ensures { order_meant result ≡ asks_with Enter (items_of items.now) }
-{
-    Some(Order::Enter {
-        line: number(items, 0)?,
-        house: number(items, 1)?,
-        figure: number(items, 2)?,
-        strip: list(items, 3)?,
-    })
-}
-
-fn sum(items: &[Token<'_>]) -> Option<Order>
-    ensures { order_meant result ≡ asks_with Sum (items_of items.now) }
-{
-    Some(Order::Sum {
-        destination: number(items, 0)?,
-        a: number(items, 1)?,
-        b: number(items, 2)?,
-    })
-}
-
-fn scale(items: &[Token<'_>]) -> Option<Order>
-    ensures { order_meant result ≡ asks_with Scale (items_of items.now) }
-{
-    Some(Order::Scale {
-        destination: number(items, 0)?,
-        a: number(items, 1)?,
-        constant: number(items, 2)?,
-    })
-}
-
-fn begin(items: &[Token<'_>]) -> Option<Order>
-    ensures { order_meant result ≡ asks_with Begin (items_of items.now) }
-{
-    Some(Order::Begin {
-        destination: number(items, 0)?,
-        a: number(items, 1)?,
-        b: number(items, 2)?,
-    })
 }
 
 impl Word {
@@ -76,42 +34,64 @@ impl Word {
     pub(crate) fn asks(self, items: &[Token<'_>]) -> Option<Order>
         ensures { order_meant result ≡ asks self (items_of items.now) }
     {
-        if items.len() != self.item_count() {
-            return None;
-        }
-        self.asks_with(items)
-    }
-
-    // The same, where there are as many items as the word has.
-    fn asks_with(self, items: &[Token<'_>]) -> Option<Order>
-        ensures { order_meant result ≡ asks_with self (items_of items.now) }
-    {
-        let order = match self {
-            Word::Kind => Order::Kind {
-                number: number(items, 0)?,
+        let order = match (self, items) {
+            (Word::Kind, [which]) => Order::Kind {
+                number: number(which)?,
             },
-            Word::Set => Order::Set {
-                n: number(items, 0)?,
-                k: number(items, 1)?,
+            (Word::Set, [n, k]) => Order::Set {
+                n: number(n)?,
+                k: number(k)?,
             },
-            Word::Enter => enter(items)?,
-            Word::Sum => sum(items)?,
-            Word::Scale => scale(items)?,
-            Word::Begin => begin(items)?,
-            Word::Deal => Order::Deal {
-                seat: number(items, 0)?,
-                strip: list(items, 1)?,
+            (Word::Enter, [line, house, figure, strip]) => Order::Enter {
+                line: number(line)?,
+                house: number(house)?,
+                figure: number(figure)?,
+                strip: list(strip)?,
             },
-            Word::Gather => Order::Gather {
-                seat: number(items, 0)?,
+            (Word::Sum | Word::Scale | Word::Begin, [destination, a, third]) => {
+                return self.asks_three(destination, a, third);
+            }
+            (Word::Deal, [seat, strip]) => Order::Deal {
+                seat: number(seat)?,
+                strip: list(strip)?,
             },
-            Word::Open => Order::Open {
-                line: number(items, 0)?,
+            (Word::Gather, [seat]) => Order::Gather {
+                seat: number(seat)?,
             },
-            Word::Show => Order::Show {
-                seat: number(items, 0)?,
+            (Word::Open, [line]) => Order::Open {
+                line: number(line)?,
             },
+            (Word::Show, [seat]) => Order::Show {
+                seat: number(seat)?,
+            },
+            _ => return None,
         };
         Some(order)
+    }
+
+    // The same with three items, which are numbers for each word that has so many. They are read here once, and not in
+    // three arms of the match above.
+    fn asks_three(self, destination: &Token<'_>, a: &Token<'_>, third: &Token<'_>) -> Option<Order>
+        ensures { order_meant result ≡ asks self (items_of (destination.now ∷ a.now ∷ third.now ∷ [])) }
+    {
+        let (destination, a, third) = (number(destination)?, number(a)?, number(third)?);
+        match self {
+            Word::Sum => Some(Order::Sum {
+                destination,
+                a,
+                b: third,
+            }),
+            Word::Scale => Some(Order::Scale {
+                destination,
+                a,
+                constant: third,
+            }),
+            Word::Begin => Some(Order::Begin {
+                destination,
+                a,
+                b: third,
+            }),
+            _ => None,
+        }
     }
 }

@@ -18,6 +18,6 @@ pub fn judge(tokens: &[Token<'_>]) -> Result<Order, FormFault>
     let Some((Token::Word(part), items)) = tokens.split_first() else {
         return Err(FormFault::UnknownWord);
     };
-    let word = Word::of(part.bytes).ok_or(FormFault::UnknownWord)?;
+    let word = Word::try_from(part.bytes)?;
     word.asks(items).ok_or(FormFault::WrongItems)
 }

@@ -8,7 +8,7 @@ mod numbers;
 mod order;
 mod word;
 
-pub use fault::{BOOK_LAYER, FORM_LAYER, FormFault};
+pub use fault::{FormFault, Layer};
 pub use judging::judge;
 pub use numbers::Numbers;
 pub use order::Order;

@@ -7,8 +7,9 @@ use reading::MOST_NUMBERS;
 
 mod taking;
 
-// At most nine numbers, in their order; the places past them hold nothing that counts.
-#[derive(Clone, Copy)]
+// At most nine numbers, in their order; the places past them hold nothing that counts. An order is copied, and an
+// `ArrayVec` cannot be: so they stand in an array, with their count.
+#[derive(Clone, Copy, Debug)]
 pub struct Numbers {
     codes: [Code; MOST_NUMBERS],
     count: usize,

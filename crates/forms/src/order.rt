@@ -3,8 +3,9 @@ use crate::numbers::Numbers;
 use kinds::Code;
 
 // The kind of the sheet's book, or one of the nine calls with the numbers handed in.
-#[derive(Clone, Copy)]
+#[derive(Clone, Copy, Debug)]
 pub enum Order {
+    // by its number, whatever it is: which kinds there are is known where the book is laid
     Kind {
         number: u32,
     },
