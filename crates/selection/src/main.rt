@@ -1,22 +1,24 @@
 //! Runs each sheet named by an argument, and writes its name and its text.
 #![tactic(auto)]
 
-use anyhow::anyhow;
+use anyhow::bail;
+use std::rt::{Env, Files};
 use std::{env, fs};
 use tally::write_up;
 
-fn run(rt: &HostRuntime) -> anyhow::Result<()> {
+fn run(rt: &(impl Print + Eprint + Env + Files + AllocGlobal)) -> anyhow::Result<()> {
     let heap = rt.alloc();
     for name in env::args(rt)?.skip(1) {
+        // both failures in this program's own words
         let Ok(sheet) = fs::read(rt, name.as_str()) else {
             rt.eprintln(name)?;
-            return Err(anyhow!("this sheet cannot be read"));
+            bail!("this sheet cannot be read");
         };
         rt.println(name)?;
-        match write_up(sheet.as_slice(), heap) {
-            Ok(text) => rt.print(text)?,
-            Err(_) => return Err(anyhow!("there is not enough memory for a sheet's text")),
-        }
+        let Ok(text) = write_up(sheet.as_slice(), heap) else {
+            bail!("there is not enough memory for a sheet's text");
+        };
+        rt.print(text)?;
     }
     Ok(())
 }

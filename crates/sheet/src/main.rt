@@ -1,10 +1,11 @@
 //! Runs a tally sheet: standard input to standard output.
 #![tactic(auto)]
 
-use anyhow::anyhow;
+use anyhow::bail;
 use reading::MOST_BYTES;
 use std::env;
 use std::io::Read;
+use std::rt::Env;
 use tally::write_up;
 
 const HELP: &str = "Runs a tally sheet and writes a line for each of its lines.
@@ -22,29 +23,26 @@ A line that says `no` gives layer, line, column and cause; docs/RULES.md
 explains each cause.";
 
 // Asked for, the help goes to standard output. After a wrong call it goes to standard error.
-fn help(rt: &HostRuntime, word: &str) -> anyhow::Result<()> {
+fn help(rt: &(impl Print + Eprint), word: &str) -> anyhow::Result<()> {
     if word == "--help" {
         rt.println(HELP)?;
         return Ok(());
     }
     rt.eprintln(HELP)?;
-    Err(anyhow!("a sheet is read from standard input, and no argument is taken"))
+    bail!("a sheet is read from standard input, and no argument is taken")
 }
 
-fn run(rt: &HostRuntime) -> anyhow::Result<()> {
-    if let Some(word) = env::args(rt)?.skip(1).next() {
+fn run(rt: &(impl Print + Eprint + Input + Env + AllocGlobal)) -> anyhow::Result<()> {
+    if let Some(word) = env::args(rt)?.nth(1) {
         return help(rt, word.as_str());
     }
     let heap = rt.alloc();
     let mut sheet = Vec::new(heap);
     // one byte more than a sheet may have tells a sheet that is too long
-    rt.stdin()
+    rt.reader()
         .take(MOST_BYTES as u64 + 1)
         .read_to_end(&mut sheet)?;
-    match write_up(sheet.as_slice(), heap) {
-        Ok(text) => rt.print(text)?,
-        Err(_) => return Err(anyhow!("there is not enough memory for the sheet's text")),
-    }
+    rt.print(write_up(sheet.as_slice(), heap)?)?;
     Ok(())
 }
 

@@ -1,5 +1,3 @@
-pub mod Telling
-pub mod Writing
 pub mod Lines
 pub mod Answered
 pub mod Taken

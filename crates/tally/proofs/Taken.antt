@@ -1,8 +1,8 @@
 -- A line that is taken. Assumes nothing.
-use Rattle.std.proofs.Common.{◌≡◌, ℕ, ◌+◌, ◌<◌, List, map, length, Ok, Err, Result, sym, refl, ap, ◌∙◌, subst, ap₂}
+use Rattle.std.proofs.Common.{◌≡◌, ℕ, ◌+◌, List, map, Ok, Err, Result, sym, ap, ◌∙◌, subst, ap₂}
 use Rattle.reading.specs.Laws.{ReadSpells}
-use Rattle.reading.specs.Line.{line_tokens, too_long, most_left, line_answer, error_told, AsDefined}
-use Rattle.reading.specs.Told.{Told, cause_number, told}
+use Rattle.reading.specs.Line.{line_tokens, too_long, line_answer, error_told, AsDefined}
+use Rattle.reading.specs.Told.{cause_number, told}
 use Rattle.reading.specs.declared.token.ReadError.{ReadError}
 use Rattle.reading.specs.declared.token.ReadError.TheVariants.{Fault, TooLong, NoMemory}
 use Rattle.reading.specs.declared.token.Token.{Token}
@@ -17,15 +17,14 @@ use Rattle.tally.specs.Taking.{Taken, Turned}
 use Rattle.tally.specs.Texts.{fault_text, reader_fault}
 use Rattle.tally.specs.declared.answer.Answer.{Answer as Answered}
 use Rattle.tally.specs.declared.fault.SheetFault.{SheetFault}
-use Rattle.tally.specs.declared.fault.SheetFault.TheVariants as sheet
-use Rattle.tally.proofs.Answered.{Says, answer_says, long_answer}
+use Rattle.tally.proofs.Answered.{Says, answer_says}
 use Rattle.tally.proofs.Lines.{read_step, fault_step, shorter}
 
 -- the reader's fault is the sheet's
 pub not_read : (d after : Desk) (line next : ℕ) (bytes rest : List ℕ) (e : ReadError) → AsDefined (error_told e) (line_answer bytes line) → Taken d line bytes (Err (as_sheet_fault e)) after next rest
 not_read d after line next bytes rest (Fault e) a =
     let h = answer_says bytes line _ a in
-    λ some. fault_step d line bytes (cause_number e.cause) e.column some h.0 ∙ ap (λ n. fault_text (reader_fault n e.column (cause_number e.cause))) (sym h.1)
+    λ some. fault_step d line bytes (cause_number e.cause) e.place.column some h.0 ∙ ap (λ n. fault_text (reader_fault n e.place.column (cause_number e.cause))) (sym h.1)
 not_read d after line next bytes rest TooLong a = answer_says bytes line too_long a
 not_read d after line next bytes rest NoMemory a = tt
 
@@ -54,17 +53,7 @@ module _ (spells : ReadSpells) (judges : JudgesForms) (line next : ℕ) (bytes r
       turned d after answer
       (ap (λ v. elim v [ Ok x ↦ on_desk d x | Err x ↦ record { answer = Err x; desk = d } ]) (judged_is r j ∙ ap judged_meant e) ∙ ap₂ (λ x y. record { answer = x; desk = y }) (sym a) (sym b))
 
--- ---- the answer at hand
+-- the answer at hand is that fault
 
 pub by_error : (d after : Desk) (line next : ℕ) (bytes rest : List ℕ) (r : Result Answered SheetFault) (fault : SheetFault) → r ≡ Err fault → Taken d line bytes (Err fault) after next rest → Taken d line bytes r after next rest
 by_error d after line next bytes rest r fault e h = subst (λ x. Taken d line bytes x after next rest) (sym e) h
-
--- where the sheet is too long, the reader says so, and so does the sheet
-pub long_so : (line : ℕ) (bytes : List ℕ) (e : ReadError) (r : Result Answered SheetFault) → AsDefined (error_told e) (line_answer bytes line) → r ≡ Err (as_sheet_fault e) → most_left < line + length bytes → r ≡ Err sheet.TooLong
-long_so line bytes (Fault x) r a is long = let z = long_answer bytes line _ a long in cc
-long_so line bytes TooLong r a is long = is
-long_so line bytes NoMemory r a is long = absurd (a (long_answer bytes line _ refl long))
-
--- a line that was read is not too long
-pub not_long : {B : Type 0} (line : ℕ) (bytes : List ℕ) (ts : List Told) (rest : List ℕ) (x y : B) → line_tokens ts rest ≡ line_answer bytes line → most_left < line + length bytes → x ≡ y
-not_long line bytes ts rest x y a long = let z = long_answer bytes line _ a long in cc

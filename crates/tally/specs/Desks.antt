@@ -1,5 +1,5 @@
 -- What an order does: it lays out a book of its kind, or is a call on the book, by the book's own rules. Assumes nothing.
-use Rattle.std.specs.Prelude.{ℕ, cond, List, [], take, Some, None, Ok, Err, Option, Result, ◌==◌}
+use Rattle.std.specs.Prelude.{ℕ, cond, List, [], Some, None, Ok, Err, Option, Result, ◌==◌}
 use Rattle.kinds.specs.Kind.{Ops}
 use Rattle.kinds.specs.Kinds.{byte_ops, small_ops, wide_ops}
 use Rattle.sharing.specs.declared.refusal.Refusal.{Refusal}
@@ -27,9 +27,9 @@ kind_ops which = cond (which == 1) (Some small_ops) (cond (which == 2) (Some wid
 
 abbrev pub desk_of : Kept → Desk
 desk_of Bare = bare
-desk_of (Small b) = laid small_ops b.pages
-desk_of (Wide b) = laid wide_ops b.pages
-desk_of (Byte b) = laid byte_ops b.pages
+desk_of (Small b) = laid small_ops b
+desk_of (Wide b) = laid wide_ops b
+desk_of (Byte b) = laid byte_ops b
 
 pub data Answer : Type 0 where
   done : Answer
@@ -39,7 +39,7 @@ pub data Answer : Type 0 where
 -- what the code's Answer stands for
 abbrev pub answer_of : Answered → Answer
 answer_of code.Done = done
-answer_of (code.Opened line total shares) = opened line total (take shares.seats shares.codes)
+answer_of (code.Opened line total shares) = opened line total shares.items
 answer_of (code.Shown seat entries) = shown seat entries
 
 abbrev pub result_of : Result Answered FormFault → Result Answer FormFault
@@ -98,3 +98,8 @@ on_bare (show seat) = kind_missing
 abbrev pub on_desk : Desk → Order → Turn
 on_desk bare order = on_bare order
 on_desk (laid o p) order = on_book o p order
+
+-- the turn in which a desk is laid, or is not
+abbrev pub laid_turn : Result Kept FormFault → Turn
+laid_turn (Ok desk) = record { answer = Ok done; desk = desk_of desk }
+laid_turn (Err fault) = record { answer = Err fault; desk = bare }

@@ -1,26 +1,17 @@
 // What a form answers.
-ghost use Rattle.std.specs.Prelude.{◌≤◌};
-ghost use Rattle.sharing.specs.Shares.{most_seats};
-
+use arrayvec::ArrayVec;
 use book::SHOWN;
 use kinds::Code;
 use sharing::MOST_SEATS;
 
-// The shares of all seats, seat 1 first; the places past them hold nothing that counts.
-#[derive(Clone, Copy)]
-pub struct Shares {
-    pub codes: [Code; MOST_SEATS],
-    pub seats: usize,
-    ghost few: { seats ≤ most_seats },
-}
-
-#[derive(Clone, Copy)]
+#[derive(Debug, PartialEq, Eq, Drop)]
 pub enum Answer {
     Done,
+    // the shares of all seats, seat 1 first
     Opened {
         line: u32,
         total: Code,
-        shares: Shares,
+        shares: ArrayVec<Code, MOST_SEATS>,
     },
     Shown {
         seat: u32,

@@ -2,21 +2,15 @@
 ghost use Rattle.std.specs.Prelude.{◌≡◌, ℕ, ◌+◌, ◌<◌, List, ◌++◌, length, IfOk, Err, string_bytes};
 ghost use Rattle.reading.specs.Line.{most_left};
 ghost use Rattle.tally.specs.Desks.{desk_of};
-ghost use Rattle.tally.specs.Taking.{Taken, Written, fault_numbers, fault_goes_on};
+ghost use Rattle.tally.specs.Taking.{Taken, Written};
 
 use crate::answer::Answer;
 use crate::desk::Desk;
 use crate::fault::SheetFault;
 use crate::memory::NoMemory;
-use crate::text::{put_answer, put_line};
-use forms::{BOOK_LAYER, judge};
+use forms::judge;
 use reading::Reader;
 use std::alloc::Global;
-
-// The layer of the reader, and the cause of a sheet that is too long.
-const READER_LAYER: u32 = 1;
-
-const TOO_LONG: u32 = 26;
 
 // A line is read whole, then judged, then run.
 pub(crate) fn take_line(
@@ -29,36 +23,7 @@ pub(crate) fn take_line(
 {
     let tokens = reader.read_line(heap)?;
     let order = judge(tokens.as_slice())?;
-    Ok(desk.follow(&order)?)
-}
-
-impl SheetFault {
-    // Layer, line, column and cause; none where memory was wanting.
-    fn numbers(&self, line: u32) -> Option<[u32; 4]>
-        ensures { result ≡ fault_numbers line self.now }
-    {
-        match self {
-            SheetFault::TooLong => Some([READER_LAYER, 0, 0, TOO_LONG]),
-            SheetFault::Reading(fault) => Some([
-                READER_LAYER,
-                fault.line,
-                fault.column,
-                fault.cause.number(),
-            ]),
-            SheetFault::Form(fault) => Some([fault.layer(), line, fault.column(), fault.number()]),
-            SheetFault::NoMemory => None,
-        }
-    }
-
-    // After the book's refusal a sheet goes on.
-    fn goes_on(&self) -> bool
-        ensures { result ≡ fault_goes_on self.now }
-    {
-        match self {
-            SheetFault::Form(fault) => fault.layer() == BOOK_LAYER,
-            _ => false,
-        }
-    }
+    Ok(desk.follow(order)?)
 }
 
 // Writes what a line came to, and says whether the sheet goes on.
@@ -71,12 +36,12 @@ pub(crate) fn put_taken(
 {
     match taken {
         Ok(answer) => {
-            put_answer(out, answer)?;
+            write!(out, "{answer}")?;
             Ok(true)
         }
         Err(fault) => {
-            let numbers = fault.numbers(line).ok_or(NoMemory)?;
-            put_line(out, "no", &numbers, &[])?;
+            let told = fault.told(line).ok_or(NoMemory)?;
+            write!(out, "{told}")?;
             Ok(fault.goes_on())
         }
     }

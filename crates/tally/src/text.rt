@@ -1,57 +1,55 @@
-// What a line of a sheet writes.
-ghost use Rattle.std.specs.Prelude.{◌≡◌, ◌∷◌, ◌++◌, string_bytes, codes, OnOk};
+// What a line of a sheet writes, with the byte that ends it.
+ghost use Rattle.std.specs.Prelude.{Some};
 ghost use Rattle.std.specs.List.{flat_map};
 ghost use Rattle.tally.specs.Desks.{answer_of};
-ghost use Rattle.tally.specs.Texts.{field, line_text, answer_text};
+ghost use Rattle.tally.specs.Taking.{numbers_of};
+ghost use Rattle.tally.specs.Texts.{field, answer_text, fault_text};
 
 use crate::answer::Answer;
-use crate::memory::NoMemory;
-use book::SHOWN;
-use kinds::Code;
+use crate::fault::ToldFault;
+use reading::Place;
+use std::fmt;
 
 // Each number behind a space.
-fn put_numbers(out: &mut String, numbers: &[u32]) -> Result<(), NoMemory>
-    ensures { OnOk result (string_bytes out.new ≡ string_bytes out.old ++ flat_map field numbers.now) }
-{
-    for n in numbers {
-        write!(out, " {n}")?;
+#[derive(Clone, Copy)]
+struct Fields<'a>(&'a [u32]);
+
+impl fmt::Display for Fields<'_> {
+    ghost output = { λ x. Some (flat_map field x.0.now) };
+
+    fn fmt<W: fmt::Write>(&self, f: &mut fmt::Formatter<W>) -> fmt::Result {
+        for n in self.0 {
+            write!(f, " {n}")?;
+        }
+        Ok(())
     }
-    Ok(())
 }
 
-// A word, the leading numbers and the others, and the byte that ends the line.
-pub(crate) fn put_line(
-    out: &mut String,
-    word: &str,
-    leading: &[u32],
-    others: &[u32],
-) -> Result<(), NoMemory>
-    ensures { OnOk result (string_bytes out.new ≡ string_bytes out.old ++ line_text word.now (leading.now ++ others.now)) }
-{
-    out.push_str(word)?;
-    put_numbers(out, leading)?;
-    put_numbers(out, others)?;
-    out.push_str("\n")?;
-    Ok(())
+impl fmt::Display for Answer {
+    ghost output = { λ x. Some (answer_text (answer_of x)) };
+
+    fn fmt<W: fmt::Write>(&self, f: &mut fmt::Formatter<W>) -> fmt::Result {
+        match self {
+            Answer::Done => writeln!(f, "ok"),
+            Answer::Opened {
+                line,
+                total,
+                shares,
+            } => writeln!(f, "open {line} {total}{}", Fields(shares.as_slice())),
+            Answer::Shown { seat, entries } => writeln!(f, "show {seat}{}", Fields(entries)),
+        }
+    }
 }
 
-// What a seat holds.
-fn put_shown(out: &mut String, seat: u32, entries: [Code; SHOWN]) -> Result<(), NoMemory>
-    ensures { OnOk result (string_bytes out.new ≡ string_bytes out.old ++ line_text (codes "show") (seat ∷ entries)) }
-{
-    put_line(out, "show", &[seat], &entries)
-}
+impl fmt::Display for ToldFault {
+    ghost output = { λ x. Some (fault_text (numbers_of x)) };
 
-pub(crate) fn put_answer(out: &mut String, answer: &Answer) -> Result<(), NoMemory>
-    ensures { OnOk result (string_bytes out.new ≡ string_bytes out.old ++ answer_text (answer_of answer.now)) }
-{
-    match *answer {
-        Answer::Done => put_line(out, "ok", &[], &[]),
-        Answer::Opened {
-            line,
-            total,
-            shares,
-        } => put_line(out, "open", &[line, total], &shares.codes[..shares.seats]),
-        Answer::Shown { seat, entries } => put_shown(out, seat, entries),
+    fn fmt<W: fmt::Write>(&self, f: &mut fmt::Formatter<W>) -> fmt::Result {
+        let ToldFault {
+            layer,
+            place: Place { line, column },
+            cause,
+        } = *self;
+        writeln!(f, "no {} {line} {column} {cause}", layer.number())
     }
 }
