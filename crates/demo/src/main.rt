@@ -1,9 +1,9 @@
 //! The demo: a house shares a figure among the seats, at each kind of number, and tells what came of it.
 #![tactic(auto)]
 
+use anyhow::Result;
 use kinds::{Byte, Code, Kind, Small, Wide};
-use sharing::{MOST_SEATS, Refusal};
-use std::io;
+use sharing::Refusal;
 
 mod tally;
 
@@ -11,6 +11,9 @@ mod tally;
 #[derive(Clone, Copy)]
 struct Task<'a> {
     figure: Code,
+    // how many seats there are, and how many of them rebuild the figure
+    n: u32,
+    k: u32,
     // the strip, k - 1 codes drawn at random
     strip: &'a [Code],
     // seats that rebuild the figure, k of them
@@ -19,7 +22,7 @@ struct Task<'a> {
     other_figure: Code,
 }
 
-// What a refusal means, in words.
+// What a refusal to rebuild means, in words. They speak of shares alone, where the refusal's own speak of any call.
 fn reason(refusal: Refusal) -> &'static str {
     match refusal {
         Refusal::Limits => "the threshold is outside its limits",
@@ -31,152 +34,140 @@ fn reason(refusal: Refusal) -> &'static str {
     }
 }
 
+impl Task<'_> {
+    // The shares that seats get, in their order.
+    fn shares_at<K: Kind, R: Alloc>(&self, rt: &R, seats: &[u32]) -> Result<Vec<Code, R::A>> {
+        let shares = seats
+            .iter()
+            .map(|seat| sharing::share::<K>(self.figure, self.strip, *seat))
+            .collect::<Vec<_, _>>(rt.alloc())?;
+        Ok(shares)
+    }
+
+    // One figure from beginning to end.
+    fn tell<K: Kind>(&self, rt: &(impl Alloc + Print)) -> Result<()> {
+        let Task {
+            figure,
+            n,
+            k,
+            strip,
+            ..
+        } = *self;
+        println!(rt;
+            "  The figure is {figure}; any {k} of the {n} seats shall be able to rebuild it."
+        )?;
+        println!(rt; "  The house draws {strip:?} at random and tells nobody.")?;
+        let seats = (1..=n).collect::<Vec<_, _>>(rt.alloc())?;
+        let mut shares = self.shares_at::<K, _>(rt, &seats)?;
+        tell_shares(rt, &seats, &shares)?;
+        self.tell_hidden::<K>(rt, 1)?;
+        let some_shares = self.shares_at::<K, _>(rt, self.some_seats)?;
+        tell_rebuild::<K>(rt, k, self.some_seats, &some_shares)?;
+        tell_weights::<K>(rt, &shares)?;
+        tell_damage::<K>(rt, k, &seats, &mut shares)
+    }
+
+    // Another figure of which the seat would hold the same share: the strip is moved by the seat's mask.
+    fn tell_hidden<K: Kind>(&self, rt: &(impl Alloc + Print), seat: u32) -> Result<()> {
+        let mut mask = vec![in rt.alloc(); 0; self.strip.len()]?;
+        sharing::mask::<K>(&[seat], &mut mask);
+        let figure = self.other_figure;
+        let by = K::sum(figure, K::negative(self.figure));
+        let strip = self
+            .strip
+            .iter()
+            .zip(&mask)
+            .map(|(code, m)| K::sum(*code, K::product(by, *m)))
+            .collect::<Vec<_, _>>(rt.alloc())?;
+        let share = sharing::share::<K>(figure, &strip, seat);
+        println!(rt;
+            "  Seat {seat} alone cannot tell: the figure {figure} along {strip:?} gives it {share} too."
+        )?;
+        Ok(())
+    }
+}
+
 // Seat by seat, the share that each holds.
-fn tell_shares<K: Kind>(rt: &HostRuntime, task: Task<'_>, shares: &mut [Code]) -> io::Result<()> {
-    let mut seat = 1u32;
-    for share in shares.iter_mut() {
-        *share = sharing::share::<K>(task.figure, task.strip, seat);
+fn tell_shares(rt: &impl Print, seats: &[u32], shares: &[Code]) -> Result<()> {
+    for (seat, share) in seats.iter().zip(shares) {
         println!(rt; "  Seat {seat} holds the share {share}.")?;
-        seat = seat.saturating_add(1);
     }
     Ok(())
 }
 
 // What the shares of all seats recombine to, by the weights.
-fn tell_weights<K: Kind>(rt: &HostRuntime, shares: &[Code]) -> io::Result<()> {
-    let mut weights = [0; MOST_SEATS];
-    if shares.len() > MOST_SEATS {
-        return Ok(());
-    }
-    let weights = &mut weights[0..shares.len()];
-    if sharing::weigh::<K>(weights).is_err() {
-        return Ok(());
-    }
-    let total = sharing::recombine::<K>(weights, shares);
-    println!(rt; "  All seats together weigh their shares by {weights:?} and get {total}.")
+fn tell_weights<K: Kind>(rt: &(impl Alloc + Print), shares: &[Code]) -> Result<()> {
+    let mut weights = vec![in rt.alloc(); 0; shares.len()]?;
+    sharing::weigh::<K>(&mut weights)?;
+    let total = sharing::recombine::<K>(&weights, shares);
+    println!(rt; "  All seats together weigh their shares by {weights:?} and get {total}.")?;
+    Ok(())
 }
 
-fn tell_rebuild<K: Kind>(
-    rt: &HostRuntime,
-    k: u32,
-    seats: &[u32],
-    shares: &[Code],
-) -> io::Result<()> {
+fn tell_rebuild<K: Kind>(rt: &impl Print, k: u32, seats: &[u32], shares: &[Code]) -> Result<()> {
     match sharing::rebuild::<K>(k, seats, shares) {
         Ok(figure) => println!(rt;
             "  Seats {seats:?} with the shares {shares:?} rebuild the figure {figure}."
-        ),
+        )?,
         Err(refusal) => {
             let number = refusal.number();
             let why = reason(refusal);
             println!(rt;
                 "  Seats {seats:?} with the shares {shares:?} are refused, cause {number}: {why}."
-            )
+            )?
         }
     }
-}
-
-// Another figure of which the seat would hold the same share: the strip is moved by the seat's mask.
-fn tell_hidden<K: Kind>(rt: &HostRuntime, task: Task<'_>, seat: u32) -> io::Result<()> {
-    let mut mask = [0; MOST_SEATS];
-    let mut strip = [0; MOST_SEATS];
-    let length = task.strip.len();
-    if length > MOST_SEATS {
-        return Ok(());
-    }
-    let mask = &mut mask[0..length];
-    sharing::mask::<K>(&[seat], mask);
-    let by = K::sum(task.other_figure, K::negative(task.figure));
-    let strip = &mut strip[0..length];
-    for i in 0..length {
-        strip[i] = K::sum(task.strip[i], K::product(by, mask[i]));
-    }
-    let figure = task.other_figure;
-    let share = sharing::share::<K>(figure, strip, seat);
-    println!(rt;
-        "  Seat {seat} alone cannot tell: the figure {figure} along {strip:?} gives it {share} too."
-    )
-}
-
-// Some seats rebuild the figure.
-fn tell_some<K: Kind>(rt: &HostRuntime, task: Task<'_>, k: u32) -> io::Result<()> {
-    let mut shares = [0; MOST_SEATS];
-    let count = task.some_seats.len();
-    if count > MOST_SEATS {
-        return Ok(());
-    }
-    let shares = &mut shares[0..count];
-    for i in 0..count {
-        shares[i] = sharing::share::<K>(task.figure, task.strip, task.some_seats[i]);
-    }
-    tell_rebuild::<K>(rt, k, task.some_seats, shares)
+    Ok(())
 }
 
 // One share is damaged: it is one too high. Then what k shares alone could not show is found.
-fn tell_damage<K: Kind>(rt: &HostRuntime, k: u32, shares: &mut [Code]) -> io::Result<()> {
-    let seats = [1, 2, 3, 4, 5, 6, 7, 8, 9];
-    let n = shares.len();
-    if n < 2 || n > MOST_SEATS {
-        return Ok(());
-    }
-    shares[n - 1] = K::sum(shares[n - 1], K::unit());
+fn tell_damage<K: Kind>(rt: &impl Print, k: u32, seats: &[u32], shares: &mut [Code]) -> Result<()> {
+    let last = shares.last_mut().ok_or(Refusal::Lengths)?;
+    *last = K::sum(*last, K::unit());
     println!(rt; "  Now the last share is damaged.")?;
-    tell_rebuild::<K>(rt, k, &seats[0..n], shares)?;
-    tell_rebuild::<K>(rt, k, &seats[0..1], &shares[0..1])?;
-    shares[0] = K::size();
-    tell_rebuild::<K>(rt, k, &seats[0..n], shares)
+    tell_rebuild::<K>(rt, k, seats, shares)?;
+    let seat = seats.first().ok_or(Refusal::Lengths)?;
+    let share = shares.first_mut().ok_or(Refusal::Lengths)?;
+    tell_rebuild::<K>(rt, k, &[*seat], &[*share])?;
+    *share = K::size();
+    tell_rebuild::<K>(rt, k, seats, shares)
 }
 
-// One figure from beginning to end.
-fn tell<K: Kind>(rt: &HostRuntime, task: Task<'_>, shares: &mut [Code]) -> io::Result<()> {
-    let figure = task.figure;
-    let strip = task.strip;
-    let n = shares.len();
-    let k = if strip.len() < MOST_SEATS {
-        strip.len() as u32 + 1
-    } else {
-        0
-    };
-    println!(rt;
-        "  The figure is {figure}; any {k} of the {n} seats shall be able to rebuild it."
-    )?;
-    println!(rt; "  The house draws {strip:?} at random and tells nobody.")?;
-    tell_shares::<K>(rt, task, shares)?;
-    tell_hidden::<K>(rt, task, 1)?;
-    tell_some::<K>(rt, task, k)?;
-    tell_weights::<K>(rt, shares)?;
-    tell_damage::<K>(rt, k, shares)
-}
-
-fn main(rt: HostRuntime) -> io::Result<()> {
+fn main(rt: HostRuntime) -> Result<()> {
     println!(rt; "Three houses share a figure each, so that no single seat can read it.")?;
     println!(rt; "")?;
     println!(rt; "A count of vans, in remainders by 31, among 3 seats:")?;
     let vans = Task {
         figure: 4,
+        n: 3,
+        k: 2,
         strip: &[5],
         some_seats: &[1, 3],
         other_figure: 2,
     };
-    tell::<Small>(&rt, vans, &mut [0; 3])?;
+    vans.tell::<Small>(&rt)?;
     println!(rt; "")?;
     println!(rt; "A month's repair costs, in remainders by 2147483647, among 5 seats:")?;
     let costs = Task {
         figure: 1284950,
+        n: 5,
+        k: 3,
         strip: &[2000000000, 77],
         some_seats: &[5, 2, 4],
         other_figure: 0,
     };
-    tell::<Wide>(&rt, costs, &mut [0; 5])?;
+    costs.tell::<Wide>(&rt)?;
     println!(rt; "")?;
     println!(rt; "A byte of a show key, with the arithmetic of FIPS 197, among 3 seats:")?;
     let key = Task {
         figure: 83,
+        n: 3,
+        k: 2,
         strip: &[87],
         some_seats: &[2, 3],
         other_figure: 255,
     };
-    tell::<Byte>(&rt, key, &mut [0; 3])?;
+    key.tell::<Byte>(&rt)?;
     println!(rt; "")?;
     println!(rt; "A tally of three houses with a seat each, of which any 2 can rebuild a total:")?;
     tally::tell(&rt)

@@ -18,42 +18,19 @@ mod tests {
     use kinds::{Byte, Code, Kind, Small, Wide};
     use sharing::Refusal;
 
-    fn same(a: &[Code], b: &[Code]) -> bool {
-        if a.len() != b.len() {
-            return false;
-        }
-        for i in 0..a.len() {
-            if a[i] != b[i] {
-                return false;
-            }
-        }
-        true
-    }
-
     fn shares<K: Kind>(figure: Code, strip: &[Code]) -> [Code; 3] {
-        [
-            sharing::share::<K>(figure, strip, 1),
-            sharing::share::<K>(figure, strip, 2),
-            sharing::share::<K>(figure, strip, 3),
-        ]
-    }
-
-    fn refused(answer: Result<Code, Refusal>) -> u32 {
-        match answer {
-            Ok(_) => 0,
-            Err(refusal) => refusal.number(),
-        }
+        [1, 2, 3].map(|seat| sharing::share::<K>(figure, strip, seat))
     }
 
     #[test]
     fn small_shares_and_weights(rt: HostRuntime) {
-        assert!(rt; same(&shares::<Small>(4, &[5]), &[9, 14, 19]));
+        assert_eq!(rt; shares::<Small>(4, &[5]), [9, 14, 19]);
         let mut three = [0; 3];
-        assert!(rt; sharing::weigh::<Small>(&mut three).is_ok());
-        assert!(rt; same(&three, &[3, 28, 1]));
+        assert_eq!(rt; sharing::weigh::<Small>(&mut three), Ok(()));
+        assert_eq!(rt; three, [3, 28, 1]);
         let mut five = [0; 5];
-        assert!(rt; sharing::weigh::<Small>(&mut five).is_ok());
-        assert!(rt; same(&five, &[5, 21, 10, 26, 1]));
+        assert_eq!(rt; sharing::weigh::<Small>(&mut five), Ok(()));
+        assert_eq!(rt; five, [5, 21, 10, 26, 1]);
     }
 
     #[test]
@@ -70,7 +47,7 @@ mod tests {
         ] {
             assert_eq!(rt; Byte::product(a, b), product);
         }
-        assert!(rt; same(&shares::<Byte>(0x53, &[0x57]), &[0x04, 0xfd, 0xaa]));
+        assert_eq!(rt; shares::<Byte>(0x53, &[0x57]), [0x04, 0xfd, 0xaa]);
     }
 
     #[test]
@@ -82,21 +59,14 @@ mod tests {
     // A total and a refusal are told apart even where their numbers are equal: here both are 19.
     #[test]
     fn rebuilding(rt: HostRuntime) {
+        assert_eq!(rt; sharing::rebuild::<Small>(2, &[1, 3], &[9, 19]), Ok(4));
         assert_eq!(rt;
-            sharing::rebuild::<Small>(2, &[1, 3], &[9, 19]).unwrap_or(99),
-            4
+            sharing::rebuild::<Small>(2, &[1, 2, 3], &[9, 14, 18]).map_err(Refusal::number),
+            Err(19)
         );
         assert_eq!(rt;
-            refused(sharing::rebuild::<Small>(2, &[1, 2, 3], &[9, 14, 18])),
-            19
-        );
-        assert_eq!(rt;
-            sharing::rebuild::<Small>(2, &[1, 3], &[19, 19]).unwrap_or(99),
-            19
-        );
-        assert_eq!(rt;
-            refused(sharing::rebuild::<Small>(2, &[1, 3], &[19, 19])),
-            0
+            sharing::rebuild::<Small>(2, &[1, 3], &[19, 19]).map_err(Refusal::number),
+            Ok(19)
         );
     }
 
@@ -104,16 +74,12 @@ mod tests {
     #[test]
     fn product_by_weights(rt: HostRuntime) {
         let mut weights = [0; 5];
-        assert!(rt; sharing::weigh::<Small>(&mut weights).is_ok());
-        let mut products = [0; 5];
-        let products = &mut products[0..5];
-        let mut seat = 1u32;
-        for entry in products.iter_mut() {
+        assert_eq!(rt; sharing::weigh::<Small>(&mut weights), Ok(()));
+        let products = [1, 2, 3, 4, 5].map(|seat| {
             let a = sharing::share::<Small>(3, &[1, 1], seat);
             let b = sharing::share::<Small>(7, &[1, 1], seat);
-            *entry = Small::product(a, b);
-            seat = seat.saturating_add(1);
-        }
-        assert_eq!(rt; sharing::recombine::<Small>(&weights, products), 21);
+            Small::product(a, b)
+        });
+        assert_eq!(rt; sharing::recombine::<Small>(&weights, &products), 21);
     }
 }

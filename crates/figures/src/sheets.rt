@@ -4,65 +4,49 @@ use std::process::Abort;
 use std::test::Fail;
 use tally::write_up;
 
-#[derive(Clone, Copy)]
-struct Case {
-    sheet: &'static [u8],
-    text: &'static str,
-}
-
-fn of(sheet: &'static [u8], text: &'static str) -> Case {
-    Case { sheet, text }
-}
-
 fn check(rt: &impl Abort, heap: Global, sheet: &[u8], text: &str) -> Result<(), Fail> {
-    match write_up(sheet, heap) {
-        Ok(written) => {
-            assert_eq!(rt; written.as_str(), text);
-            Ok(())
-        },
-        Err(_) => {
-            assert_eq!(rt; "no memory", text);
-            Ok(())
-        },
+    let written = write_up(sheet, heap)?;
+    assert_eq!(rt; written.as_str(), text);
+    Ok(())
+}
+
+fn check_each(rt: &impl Abort, heap: Global, cases: &[(&str, &str)]) -> Result<(), Fail> {
+    for (sheet, text) in cases {
+        check(rt, heap, sheet.as_bytes(), text)?;
     }
+    Ok(())
 }
 
 #[test]
 fn words_and_kinds(rt: HostRuntime) -> Result<(), Fail> {
     let cases = [
-        of(b"", ""),
-        of(b"(kind 1)\n", "ok\n"),
-        of(b"(kind 0)\n", "no 2 1 1 25\n"),
-        of(b"(kind 4)\n", "no 2 1 1 25\n"),
-        of(b"(kind 3)\n(kind 3)\n(set 3 2)\n", "ok\nno 2 2 1 25\n"),
-        of(b"(set 3 2)\n", "no 2 1 1 25\n"),
-        of(b"(kinds 1)\n", "no 2 1 2 23\n"),
-        of(b"(kind)\n", "no 2 1 1 24\n"),
-        of(b"(kind (1))\n", "no 2 1 1 24\n"),
-        of(b"(kind 1 2)\n", "no 2 1 1 24\n"),
-        of(b"(kind 2)\n(open 0)\n(set 3 2)\n", "ok\nno 3 2 1 1\nok\n"),
+        ("", ""),
+        ("(kind 1)\n", "ok\n"),
+        ("(kind 0)\n", "no 2 1 1 25\n"),
+        ("(kind 4)\n", "no 2 1 1 25\n"),
+        ("(kind 3)\n(kind 3)\n(set 3 2)\n", "ok\nno 2 2 1 25\n"),
+        ("(set 3 2)\n", "no 2 1 1 25\n"),
+        ("(kinds 1)\n", "no 2 1 2 23\n"),
+        ("(kind)\n", "no 2 1 1 24\n"),
+        ("(kind (1))\n", "no 2 1 1 24\n"),
+        ("(kind 1 2)\n", "no 2 1 1 24\n"),
+        ("(kind 2)\n(open 0)\n(set 3 2)\n", "ok\nno 3 2 1 1\nok\n"),
     ];
-    for each in cases {
-        check(&rt, rt.alloc(), each.sheet, each.text)?;
-    }
-    Ok(())
+    check_each(&rt, rt.alloc(), &cases)
 }
 
 #[test]
 fn lines(rt: HostRuntime) -> Result<(), Fail> {
     let cases = [
-        of(b"(enter 00x", "no 1 1 8 21\n"),
-        of(b"(enter 4", "no 1 1 9 20\n"),
-        of(b"(enterings)\n", "no 1 1 10 20\n"),
-        of(b"(a (1 2 3 4 5 6 7 8 9 10x", "no 1 1 23 22\n"),
-        of(b"(a (1 2 3 4 5 6 7 8 9 010", "no 1 1 23 21\n"),
-        of(b"(kind 4294967296)\n", "no 1 1 7 21\n"),
-        of(b"(kind 1)\n\n", "ok\nno 1 2 1 20\n"),
+        ("(enter 00x", "no 1 1 8 21\n"),
+        ("(enter 4", "no 1 1 9 20\n"),
+        ("(enterings)\n", "no 1 1 10 20\n"),
+        ("(a (1 2 3 4 5 6 7 8 9 10x", "no 1 1 23 22\n"),
+        ("(a (1 2 3 4 5 6 7 8 9 010", "no 1 1 23 21\n"),
+        ("(kind 4294967296)\n", "no 1 1 7 21\n"),
+        ("(kind 1)\n\n", "ok\nno 1 2 1 20\n"),
     ];
-    for each in cases {
-        check(&rt, rt.alloc(), each.sheet, each.text)?;
-    }
-    Ok(())
+    check_each(&rt, rt.alloc(), &cases)
 }
 
 // Three figures a, b and c at five seats with threshold 3, shared along 3 + x + x², 7 + x + x² and 5 + x², and (a + b) × c,

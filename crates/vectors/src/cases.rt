@@ -1,6 +1,7 @@
 // Calls of rebuild: true shares, damaged ones, each refusal at its bound, and two causes at once.
 use kinds::Code;
 
+// The seats and the shares are two lists, as the rules hand them in.
 #[derive(Clone, Copy)]
 pub struct Case {
     pub k: u32,

@@ -8,6 +8,8 @@ use std::io;
 
 mod cases;
 
+use cases::{CASES, Case};
+
 // Codes at and around each bound.
 const CODES: [Code; 14] = [
     0, 1, 2, 30, 31, 32, 255, 256, 257, 2147483646, 2147483647, 2147483648, 4294967294, 4294967295,
@@ -16,7 +18,25 @@ const CODES: [Code; 14] = [
 // Numbers with a point and without.
 const NUMBERS: [u32; 13] = [0, 1, 2, 3, 4, 5, 6, 7, 8, 9, 10, 11, 4294967295];
 
-fn operations<K: Kind>(rt: &HostRuntime, kind: &str) -> io::Result<()> {
+// A kind by its name in the report.
+trait Named: Kind {
+    const NAME: &'static str;
+}
+
+impl Named for Small {
+    const NAME: &'static str = "small";
+}
+
+impl Named for Wide {
+    const NAME: &'static str = "wide";
+}
+
+impl Named for Byte {
+    const NAME: &'static str = "byte";
+}
+
+fn operations<K: Named>(rt: &impl Print) -> io::Result<()> {
+    let kind = K::NAME;
     let size = K::size();
     let unit = K::unit();
     println!(rt; "{kind} size {size} unit {unit}")?;
@@ -32,7 +52,8 @@ fn operations<K: Kind>(rt: &HostRuntime, kind: &str) -> io::Result<()> {
     Ok(())
 }
 
-fn points<K: Kind>(rt: &HostRuntime, kind: &str) -> io::Result<()> {
+fn points<K: Named>(rt: &impl Print) -> io::Result<()> {
+    let kind = K::NAME;
     for i in NUMBERS {
         let point = K::point(i);
         println!(rt; "{kind} point {i} is {point}")?;
@@ -45,13 +66,10 @@ fn points<K: Kind>(rt: &HostRuntime, kind: &str) -> io::Result<()> {
 }
 
 // The weights of n seats, up to one too many.
-fn weights<K: Kind>(rt: &HostRuntime, kind: &str, n: usize) -> io::Result<()> {
-    let mut list = [7; 10];
-    if n > 10 {
-        return Ok(());
-    }
-    let list = &mut list[0..n];
-    match sharing::weigh::<K>(list) {
+fn weights<K: Named>(rt: &(impl Alloc + Print), n: usize) -> io::Result<()> {
+    let kind = K::NAME;
+    let mut list = vec![in rt.alloc(); 7; n]?;
+    match sharing::weigh::<K>(&mut list) {
         Ok(()) => println!(rt; "{kind} weights of {n}: {list:?}"),
         Err(refusal) => {
             let number = refusal.number();
@@ -61,48 +79,40 @@ fn weights<K: Kind>(rt: &HostRuntime, kind: &str, n: usize) -> io::Result<()> {
 }
 
 // What the weights of n seats make of the first n shares.
-fn weighed<K: Kind>(rt: &HostRuntime, kind: &str, shares: &[Code], n: usize) -> io::Result<()> {
-    let mut weights = [0; MOST_SEATS];
-    if n > MOST_SEATS {
-        return Ok(());
-    }
-    let weights = &mut weights[0..n];
-    let _ = sharing::weigh::<K>(weights);
-    let total = sharing::recombine::<K>(weights, shares);
+fn weighed<K: Named>(rt: &(impl Alloc + Print), shares: &[Code], n: usize) -> io::Result<()> {
+    let kind = K::NAME;
+    let mut weights = vec![in rt.alloc(); 0; n]?;
+    let Ok(()) = sharing::weigh::<K>(&mut weights) else {
+        return println!(rt; "{kind} {n} shares are not weighed");
+    };
+    let total = sharing::recombine::<K>(&weights, shares);
     println!(rt; "{kind} {n} weighed shares are {total}")
 }
 
 // The shares of a figure along a strip at seats 0 to 10, and what the weights make of them.
-fn shares<K: Kind>(rt: &HostRuntime, kind: &str, figure: Code, strip: &[Code]) -> io::Result<()> {
-    for seat in 0..11u32 {
+fn shares<K: Named>(rt: &(impl Alloc + Print), figure: Code, strip: &[Code]) -> io::Result<()> {
+    let kind = K::NAME;
+    for seat in 0..11 {
         let share = sharing::share::<K>(figure, strip, seat);
         println!(rt; "{kind} share of {figure} along {strip:?} at {seat} is {share}")?;
     }
-    let mut list = [0; MOST_SEATS];
-    let list = &mut list[0..MOST_SEATS];
-    let mut seat = 1u32;
-    for entry in list.iter_mut() {
-        *entry = sharing::share::<K>(figure, strip, seat);
-        seat = seat.saturating_add(1);
-    }
-    for n in 0..10usize {
-        weighed::<K>(rt, kind, list, n)?;
+    let shares = [1, 2, 3, 4, 5, 6, 7, 8, 9].map(|seat| sharing::share::<K>(figure, strip, seat));
+    for n in 0..=MOST_SEATS {
+        weighed::<K>(rt, &shares, n)?;
     }
     Ok(())
 }
 
-fn masks<K: Kind>(rt: &HostRuntime, kind: &str, group: &[u32], length: usize) -> io::Result<()> {
-    let mut strip = [5; MOST_SEATS];
-    if length <= MOST_SEATS {
-        let strip = &mut strip[0..length];
-        sharing::mask::<K>(group, strip);
-        println!(rt; "{kind} mask of {group:?} is {strip:?}")?;
-    }
-    Ok(())
+fn masks<K: Named>(rt: &(impl Alloc + Print), group: &[u32], length: usize) -> io::Result<()> {
+    let kind = K::NAME;
+    let mut strip = vec![in rt.alloc(); 5; length]?;
+    sharing::mask::<K>(group, &mut strip);
+    println!(rt; "{kind} mask of {group:?} is {strip:?}")
 }
 
-fn rebuild<K: Kind>(rt: &HostRuntime, kind: &str, case: cases::Case) -> io::Result<()> {
-    let cases::Case { k, seats, shares } = case;
+fn rebuild<K: Named>(rt: &impl Print, case: Case) -> io::Result<()> {
+    let kind = K::NAME;
+    let Case { k, seats, shares } = case;
     match sharing::rebuild::<K>(k, seats, shares) {
         Ok(figure) => println!(rt; "{kind} rebuild {k} {seats:?} {shares:?}: ok {figure}"),
         Err(refusal) => {
@@ -112,28 +122,28 @@ fn rebuild<K: Kind>(rt: &HostRuntime, kind: &str, case: cases::Case) -> io::Resu
     }
 }
 
-fn kind<K: Kind>(rt: &HostRuntime, name: &str) -> io::Result<()> {
-    operations::<K>(rt, name)?;
-    points::<K>(rt, name)?;
-    for n in 0..11usize {
-        weights::<K>(rt, name, n)?;
+fn kind<K: Named>(rt: &(impl Alloc + Print)) -> io::Result<()> {
+    operations::<K>(rt)?;
+    points::<K>(rt)?;
+    for n in 0..=MOST_SEATS + 1 {
+        weights::<K>(rt, n)?;
     }
-    shares::<K>(rt, name, 4, &[5])?;
-    shares::<K>(rt, name, 83, &[87])?;
-    shares::<K>(rt, name, 4294967295, &[4294967295, 2147483647, 256, 31])?;
-    shares::<K>(rt, name, 7, &[])?;
-    masks::<K>(rt, name, &[], 2)?;
-    masks::<K>(rt, name, &[3], 1)?;
-    masks::<K>(rt, name, &[9, 1, 4, 2], 4)?;
-    masks::<K>(rt, name, &[0, 10, 4294967295], 2)?;
-    for case in cases::CASES {
-        rebuild::<K>(rt, name, case)?;
+    shares::<K>(rt, 4, &[5])?;
+    shares::<K>(rt, 83, &[87])?;
+    shares::<K>(rt, 4294967295, &[4294967295, 2147483647, 256, 31])?;
+    shares::<K>(rt, 7, &[])?;
+    masks::<K>(rt, &[], 2)?;
+    masks::<K>(rt, &[3], 1)?;
+    masks::<K>(rt, &[9, 1, 4, 2], 4)?;
+    masks::<K>(rt, &[0, 10, 4294967295], 2)?;
+    for case in CASES {
+        rebuild::<K>(rt, case)?;
     }
     Ok(())
 }
 
 fn main(rt: HostRuntime) -> io::Result<()> {
-    kind::<Small>(&rt, "small")?;
-    kind::<Wide>(&rt, "wide")?;
-    kind::<Byte>(&rt, "byte")
+    kind::<Small>(&rt)?;
+    kind::<Wide>(&rt)?;
+    kind::<Byte>(&rt)
 }
