@@ -1,4 +1,4 @@
-// The nine calls.
+// The nine calls. Each takes the numbers that the rules name, one by one, also where they travel on together.
 ghost use Rattle.std.specs.Prelude.{◌≡◌, ◌≤◌, length};
 ghost use Rattle.sharing.specs.Shares.{most_seats};
 ghost use Rattle.book.specs.Books.{blank, seat_count, answered, done, left, list_after, set_answered, set_left};
@@ -28,7 +28,7 @@ impl<K: Kind> Book<K> {
         }
     }
 
-    // How many seats the book has: 0 while it is unset.
+    // How many seats the book has: 0 while it is unset, as the rules count them.
     pub fn seats(&self) -> u32
         ensures count { result ≡ seat_count self.now }
         ensures few { result ≤ most_seats }
