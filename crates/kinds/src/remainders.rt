@@ -25,8 +25,9 @@ pub trait Modulus: Copy {
     ghost lawful: { Lawful (remainders SIZE table) };
 }
 
-// The remainders by a modulus, counted by its ordinary sum and product.
-#[derive(Clone, Copy)]
+// The remainders by a modulus, counted by its ordinary sum and product. They compare, so that the constants Small and Wide
+// can stand in patterns.
+#[derive(Clone, Copy, PartialEq, Eq)]
 pub struct Remainders<M>(pub(super) PhantomData<M>);
 
 impl<M: Modulus> Kind for Remainders<M> {

@@ -25,7 +25,7 @@ static RECIPROCALS: Reciprocals = [
 ];
 
 // The modulus 31.
-#[derive(Clone, Copy)]
+#[derive(Clone, Copy, PartialEq, Eq)]
 pub struct By31;
 
 impl Modulus for By31 {

@@ -55,7 +55,7 @@ static RECIPROCALS: Reciprocals = [
 ];
 
 // The modulus 2,147,483,647.
-#[derive(Clone, Copy)]
+#[derive(Clone, Copy, PartialEq, Eq)]
 pub struct By2147483647;
 
 impl Modulus for By2147483647 {
