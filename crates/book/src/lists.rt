@@ -1,6 +1,6 @@
 // The lists that calls write, and what is weighed of them.
 ghost use Rattle.std.specs.Prelude.{◌≡◌, ◌≤◌, true, false, MatchOption, length, map};
-ghost use Rattle.sharing.specs.Shares.{most_seats, seats_to, weighed};
+ghost use Rattle.sharing.specs.Shares.{most_seats, seats_to, weights_of, weighed};
 ghost use Rattle.book.specs.Secrets.{share_held, letter_held, opened, entry_if, shown};
 ghost use Rattle.book.specs.Slates.{show_count, flag, holds_share};
 
@@ -11,6 +11,18 @@ use sharing::MOST_SEATS;
 
 // How many of show's entries are for lines; the others are for letters.
 const SHARES_SHOWN: usize = 2 * LINES;
+
+// The weights of seats 1 to n. That n is at most nine is asked of it, a number that has no type of its own to keep it.
+pub(crate) fn weights_for<K: Kind>(n: u32) -> ArrayVec<Code, MOST_SEATS>
+    requires { n ≤ most_seats }
+    ensures { result.items ≡ weights_of K.Kind.ops n }
+{
+    let mut weights = ArrayVec::from([0; MOST_SEATS]);
+    weights.truncate(n as usize);
+    // it refuses only a list of more than nine
+    let _ = sharing::weigh::<K>(weights.as_mut_slice());
+    weights
+}
 
 // The two entries for a code: 1 and the code, or 0 and 0 where there is none.
 fn entries(code: Option<Code>) -> [Code; 2]

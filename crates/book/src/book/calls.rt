@@ -1,4 +1,5 @@
-// The nine calls. Each takes the numbers that the rules name, one by one, also where they travel on together.
+// The nine calls. Each takes the numbers that the rules name, one by one, also where they travel on together. Beside what the
+// rules say, each says that the book it leaves has at most nine seats (`few`): its invariant, which callers do not see.
 ghost use Rattle.std.specs.Prelude.{◌≡◌, ◌≤◌, length};
 ghost use Rattle.sharing.specs.Shares.{most_seats};
 ghost use Rattle.book.specs.Books.{blank, seat_count, answered, done, left, list_after, set_answered, set_left};
@@ -7,10 +8,11 @@ ghost use Rattle.book.specs.Secrets.{opened, shown};
 
 use super::Book;
 use crate::deciding::may_set;
+use crate::lists::weights_for;
 use crate::{Hand, Line, Pages, Secrets, Slate, rows};
 use arrayvec::ArrayVec;
 use kinds::{Code, Kind};
-use sharing::{MOST_SEATS, Refusal};
+use sharing::Refusal;
 use std::marker::PhantomData;
 
 impl<K: Kind> Book<K> {
@@ -40,15 +42,13 @@ impl<K: Kind> Book<K> {
     pub fn set(&mut self, n: u32, k: u32) -> Result<(), Refusal>
         ensures answer { result ≡ set_answered self.old n k }
         ensures book { self.new ≡ set_left self.old n k }
+        ensures few { seat_count self.new ≤ most_seats }
     {
         if self.pages.slate.is_some() {
             return Err(Refusal::AlreadySet);
         }
         may_set(n, k)?;
-        let mut weights = ArrayVec::from([0; MOST_SEATS]);
-        weights.truncate(n as usize);
-        sharing::weigh::<K>(weights.as_mut_slice())?;
-        self.weights = weights;
+        self.weights = weights_for::<K>(n);
         self.pages = Pages {
             slate: Some(Slate::fresh(n, k)),
             secrets: Secrets::empty(),
@@ -66,6 +66,7 @@ impl<K: Kind> Book<K> {
     ) -> Result<(), Refusal>
         ensures answer { result ≡ done (answered K.Kind.ops self.old (enter line house figure strip.now)) }
         ensures book { self.new ≡ left K.Kind.ops self.old (enter line house figure strip.now) }
+        ensures few { seat_count self.new ≤ most_seats }
     {
         let Pages { slate, secrets } = &mut self.pages;
         let slate = slate.as_mut().ok_or(Refusal::Unset)?;
@@ -80,6 +81,7 @@ impl<K: Kind> Book<K> {
     pub fn sum(&mut self, destination: u32, a: u32, b: u32) -> Result<(), Refusal>
         ensures answer { result ≡ done (answered K.Kind.ops self.old (sum destination a b)) }
         ensures book { self.new ≡ left K.Kind.ops self.old (sum destination a b) }
+        ensures few { seat_count self.new ≤ most_seats }
     {
         let Pages { slate, secrets } = &mut self.pages;
         let slate = slate.as_mut().ok_or(Refusal::Unset)?;
@@ -96,6 +98,7 @@ impl<K: Kind> Book<K> {
     pub fn scale(&mut self, destination: u32, a: u32, constant: Code) -> Result<(), Refusal>
         ensures answer { result ≡ done (answered K.Kind.ops self.old (scale destination a constant)) }
         ensures book { self.new ≡ left K.Kind.ops self.old (scale destination a constant) }
+        ensures few { seat_count self.new ≤ most_seats }
     {
         let Pages { slate, secrets } = &mut self.pages;
         let slate = slate.as_mut().ok_or(Refusal::Unset)?;
@@ -113,6 +116,7 @@ impl<K: Kind> Book<K> {
     pub fn begin(&mut self, destination: u32, a: u32, b: u32) -> Result<(), Refusal>
         ensures answer { result ≡ done (answered K.Kind.ops self.old (begin destination a b)) }
         ensures book { self.new ≡ left K.Kind.ops self.old (begin destination a b) }
+        ensures few { seat_count self.new ≤ most_seats }
     {
         let slate = self.pages.slate.as_mut().ok_or(Refusal::Unset)?;
         slate.may_begin(destination, a, b)?;
@@ -125,6 +129,7 @@ impl<K: Kind> Book<K> {
     pub fn deal(&mut self, seat: u32, strip: &[Code]) -> Result<(), Refusal>
         ensures answer { result ≡ done (answered K.Kind.ops self.old (deal seat strip.now)) }
         ensures book { self.new ≡ left K.Kind.ops self.old (deal seat strip.now) }
+        ensures few { seat_count self.new ≤ most_seats }
     {
         let Pages { slate, secrets } = &mut self.pages;
         let slate = slate.as_mut().ok_or(Refusal::Unset)?;
@@ -144,6 +149,7 @@ impl<K: Kind> Book<K> {
     pub fn gather(&mut self, seat: u32) -> Result<(), Refusal>
         ensures answer { result ≡ done (answered K.Kind.ops self.old (gather seat)) }
         ensures book { self.new ≡ left K.Kind.ops self.old (gather seat) }
+        ensures few { seat_count self.new ≤ most_seats }
     {
         let Pages { slate, secrets } = &mut self.pages;
         let slate = slate.as_mut().ok_or(Refusal::Unset)?;
@@ -160,6 +166,7 @@ impl<K: Kind> Book<K> {
     pub fn open(&mut self, line: u32, list: &mut [Code]) -> Result<Code, Refusal>
         ensures answer { result ≡ answered K.Kind.ops self.old («open» line (length list.old)) }
         ensures book { self.new ≡ left K.Kind.ops self.old («open» line (length list.old)) }
+        ensures few { seat_count self.new ≤ most_seats }
         ensures written { list.new ≡ list_after K.Kind.ops.size self.old («open» line (length list.old)) (λ s. opened s.n self.old.secrets line) list.old }
     {
         let slate = self.pages.slate.as_ref().ok_or(Refusal::Unset)?;
@@ -172,6 +179,7 @@ impl<K: Kind> Book<K> {
     pub fn show(&mut self, seat: u32, list: &mut [Code]) -> Result<(), Refusal>
         ensures answer { result ≡ done (answered K.Kind.ops self.old (show seat (length list.old))) }
         ensures book { self.new ≡ left K.Kind.ops self.old (show seat (length list.old)) }
+        ensures few { seat_count self.new ≤ most_seats }
         ensures written { list.new ≡ list_after K.Kind.ops.size self.old (show seat (length list.old)) (λ s. shown s self.old.secrets seat) list.old }
     {
         let slate = self.pages.slate.as_ref().ok_or(Refusal::Unset)?;
