@@ -1,11 +1,24 @@
 //! The demo: a house shares a figure among the seats, at each kind of number, and tells what came of it.
 #![tactic(auto)]
 
-use anyhow::Result;
+use arrayvec::ArrayVec;
 use kinds::{Byte, Code, Kind, Small, Wide};
-use sharing::Refusal;
+use sharing::{MOST_SEATS, Refusal};
+use std::io;
+use thiserror::Error;
 
 mod tally;
+
+// What ends the report early: a line of it cannot be written, or a call is refused. Nothing here allocates.
+#[derive(Debug, Drop, Error)]
+pub enum Stop {
+    #[error("{0}")]
+    Unwritten(#[from] io::Error),
+    #[error("{0}")]
+    Refused(#[from] Refusal),
+}
+
+pub type Result<T, E = Stop> = std::result::Result<T, E>;
 
 // A figure to be shared, and who takes part.
 #[derive(Clone, Copy)]
@@ -34,18 +47,25 @@ fn reason(refusal: Refusal) -> &'static str {
     }
 }
 
+// So many zeros, at most nine: places that a call writes, without an allocator.
+fn zeros(count: usize) -> ArrayVec<Code, MOST_SEATS> {
+    let mut list = ArrayVec::from([0; MOST_SEATS]);
+    list.truncate(count);
+    list
+}
+
 impl Task<'_> {
     // The shares that seats get, in their order.
-    fn shares_at<K: Kind, R: Alloc>(&self, rt: &R, seats: &[u32]) -> Result<Vec<Code, R::A>> {
-        let shares = seats
-            .iter()
-            .map(|seat| sharing::share::<K>(self.figure, self.strip, *seat))
-            .collect::<Vec<_, _>>(rt.alloc())?;
-        Ok(shares)
+    fn shares_at<K: Kind>(&self, seats: &[u32]) -> ArrayVec<Code, MOST_SEATS> {
+        let mut shares = zeros(seats.len());
+        for (share, seat) in shares.iter_mut().zip(seats) {
+            *share = sharing::share::<K>(self.figure, self.strip, *seat);
+        }
+        shares
     }
 
     // One figure from beginning to end.
-    fn tell<K: Kind>(&self, rt: &(impl Alloc + Print)) -> Result<()> {
+    fn tell<K: Kind>(&self, rt: &impl Print) -> Result<()> {
         let Task {
             figure,
             n,
@@ -57,28 +77,27 @@ impl Task<'_> {
             "  The figure is {figure}; any {k} of the {n} seats shall be able to rebuild it."
         )?;
         println!(rt; "  The house draws {strip:?} at random and tells nobody.")?;
-        let seats = (1..=n).collect::<Vec<_, _>>(rt.alloc())?;
-        let mut shares = self.shares_at::<K, _>(rt, &seats)?;
+        let mut seats = ArrayVec::from([1, 2, 3, 4, 5, 6, 7, 8, 9]);
+        seats.truncate(n as usize);
+        let mut shares = self.shares_at::<K>(&seats);
         tell_shares(rt, &seats, &shares)?;
         self.tell_hidden::<K>(rt, 1)?;
-        let some_shares = self.shares_at::<K, _>(rt, self.some_seats)?;
+        let some_shares = self.shares_at::<K>(self.some_seats);
         tell_rebuild::<K>(rt, k, self.some_seats, &some_shares)?;
         tell_weights::<K>(rt, &shares)?;
         tell_damage::<K>(rt, k, &seats, &mut shares)
     }
 
     // Another figure of which the seat would hold the same share: the strip is moved by the seat's mask.
-    fn tell_hidden<K: Kind>(&self, rt: &(impl Alloc + Print), seat: u32) -> Result<()> {
-        let mut mask = vec![in rt.alloc(); 0; self.strip.len()]?;
+    fn tell_hidden<K: Kind>(&self, rt: &impl Print, seat: u32) -> Result<()> {
+        let mut mask = zeros(self.strip.len());
         sharing::mask::<K>(&[seat], &mut mask);
         let figure = self.other_figure;
         let by = K::sum(figure, K::negative(self.figure));
-        let strip = self
-            .strip
-            .iter()
-            .zip(&mask)
-            .map(|(code, m)| K::sum(*code, K::product(by, *m)))
-            .collect::<Vec<_, _>>(rt.alloc())?;
+        let mut strip = mask;
+        for (moved, code) in strip.iter_mut().zip(self.strip) {
+            *moved = K::sum(*code, K::product(by, *moved));
+        }
         let share = sharing::share::<K>(figure, &strip, seat);
         println!(rt;
             "  Seat {seat} alone cannot tell: the figure {figure} along {strip:?} gives it {share} too."
@@ -96,8 +115,8 @@ fn tell_shares(rt: &impl Print, seats: &[u32], shares: &[Code]) -> Result<()> {
 }
 
 // What the shares of all seats recombine to, by the weights.
-fn tell_weights<K: Kind>(rt: &(impl Alloc + Print), shares: &[Code]) -> Result<()> {
-    let mut weights = vec![in rt.alloc(); 0; shares.len()]?;
+fn tell_weights<K: Kind>(rt: &impl Print, shares: &[Code]) -> Result<()> {
+    let mut weights = zeros(shares.len());
     sharing::weigh::<K>(&mut weights)?;
     let total = sharing::recombine::<K>(&weights, shares);
     println!(rt; "  All seats together weigh their shares by {weights:?} and get {total}.")?;
@@ -133,7 +152,7 @@ fn tell_damage<K: Kind>(rt: &impl Print, k: u32, seats: &[u32], shares: &mut [Co
     tell_rebuild::<K>(rt, k, seats, shares)
 }
 
-fn main(rt: HostRuntime) -> Result<()> {
+fn tell_all(rt: &impl Print) -> Result<()> {
     println!(rt; "Three houses share a figure each, so that no single seat can read it.")?;
     println!(rt; "")?;
     println!(rt; "A count of vans, in remainders by 31, among 3 seats:")?;
@@ -145,7 +164,7 @@ fn main(rt: HostRuntime) -> Result<()> {
         some_seats: &[1, 3],
         other_figure: 2,
     };
-    vans.tell::<Small>(&rt)?;
+    vans.tell::<Small>(rt)?;
     println!(rt; "")?;
     println!(rt; "A month's repair costs, in remainders by 2147483647, among 5 seats:")?;
     let costs = Task {
@@ -156,7 +175,7 @@ fn main(rt: HostRuntime) -> Result<()> {
         some_seats: &[5, 2, 4],
         other_figure: 0,
     };
-    costs.tell::<Wide>(&rt)?;
+    costs.tell::<Wide>(rt)?;
     println!(rt; "")?;
     println!(rt; "A byte of a show key, with the arithmetic of FIPS 197, among 3 seats:")?;
     let key = Task {
@@ -167,8 +186,19 @@ fn main(rt: HostRuntime) -> Result<()> {
         some_seats: &[2, 3],
         other_figure: 255,
     };
-    key.tell::<Byte>(&rt)?;
+    key.tell::<Byte>(rt)?;
     println!(rt; "")?;
     println!(rt; "A tally of three houses with a seat each, of which any 2 can rebuild a total:")?;
-    tally::tell(&rt)
+    tally::tell(rt)
+}
+
+fn main(rt: HostRuntime) -> io::Result<()> {
+    match tell_all(&rt) {
+        Ok(()) => Ok(()),
+        Err(Stop::Unwritten(error)) => Err(error),
+        Err(Stop::Refused(refusal)) => {
+            let number = refusal.number();
+            println!(rt; "  A call was refused, cause {number}.")
+        }
+    }
 }

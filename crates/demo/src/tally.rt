@@ -1,5 +1,5 @@
 // One tally from beginning to end: three houses, a sum, a scaling and a product.
-use anyhow::Result;
+use super::Result;
 use book::{Book, SHOWN};
 use kinds::{Code, Kind, Wide};
 use sharing::Refusal;

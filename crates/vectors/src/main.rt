@@ -2,6 +2,7 @@
 //! made by an independent program, tools/vectors.py.
 #![tactic(auto)]
 
+use arrayvec::ArrayVec;
 use kinds::{Byte, Code, Kind, Small, Wide};
 use sharing::MOST_SEATS;
 use std::io;
@@ -17,6 +18,9 @@ const CODES: [Code; 14] = [
 
 // Numbers with a point and without.
 const NUMBERS: [u32; 13] = [0, 1, 2, 3, 4, 5, 6, 7, 8, 9, 10, 11, 4294967295];
+
+// One seat more than a figure is shared among.
+const TOO_MANY_SEATS: usize = MOST_SEATS + 1;
 
 // A kind by its name in the report.
 trait Named: Kind {
@@ -66,9 +70,10 @@ fn points<K: Named>(rt: &impl Print) -> io::Result<()> {
 }
 
 // The weights of n seats, up to one too many.
-fn weights<K: Named>(rt: &(impl Alloc + Print), n: usize) -> io::Result<()> {
+fn weights<K: Named>(rt: &impl Print, n: usize) -> io::Result<()> {
     let kind = K::NAME;
-    let mut list = vec![in rt.alloc(); 7; n]?;
+    let mut list = ArrayVec::from([7; TOO_MANY_SEATS]);
+    list.truncate(n);
     match sharing::weigh::<K>(&mut list) {
         Ok(()) => println!(rt; "{kind} weights of {n}: {list:?}"),
         Err(refusal) => {
@@ -79,9 +84,10 @@ fn weights<K: Named>(rt: &(impl Alloc + Print), n: usize) -> io::Result<()> {
 }
 
 // What the weights of n seats make of the first n shares.
-fn weighed<K: Named>(rt: &(impl Alloc + Print), shares: &[Code], n: usize) -> io::Result<()> {
+fn weighed<K: Named>(rt: &impl Print, shares: &[Code], n: usize) -> io::Result<()> {
     let kind = K::NAME;
-    let mut weights = vec![in rt.alloc(); 0; n]?;
+    let mut weights = ArrayVec::from([0; MOST_SEATS]);
+    weights.truncate(n);
     let Ok(()) = sharing::weigh::<K>(&mut weights) else {
         return println!(rt; "{kind} {n} shares are not weighed");
     };
@@ -90,7 +96,7 @@ fn weighed<K: Named>(rt: &(impl Alloc + Print), shares: &[Code], n: usize) -> io
 }
 
 // The shares of a figure along a strip at seats 0 to 10, and what the weights make of them.
-fn shares<K: Named>(rt: &(impl Alloc + Print), figure: Code, strip: &[Code]) -> io::Result<()> {
+fn shares<K: Named>(rt: &impl Print, figure: Code, strip: &[Code]) -> io::Result<()> {
     let kind = K::NAME;
     for seat in 0..11 {
         let share = sharing::share::<K>(figure, strip, seat);
@@ -103,9 +109,10 @@ fn shares<K: Named>(rt: &(impl Alloc + Print), figure: Code, strip: &[Code]) -> 
     Ok(())
 }
 
-fn masks<K: Named>(rt: &(impl Alloc + Print), group: &[u32], length: usize) -> io::Result<()> {
+fn masks<K: Named>(rt: &impl Print, group: &[u32], length: usize) -> io::Result<()> {
     let kind = K::NAME;
-    let mut strip = vec![in rt.alloc(); 5; length]?;
+    let mut strip = ArrayVec::from([5; MOST_SEATS]);
+    strip.truncate(length);
     sharing::mask::<K>(group, &mut strip);
     println!(rt; "{kind} mask of {group:?} is {strip:?}")
 }
@@ -122,10 +129,10 @@ fn rebuild<K: Named>(rt: &impl Print, case: Case) -> io::Result<()> {
     }
 }
 
-fn kind<K: Named>(rt: &(impl Alloc + Print)) -> io::Result<()> {
+fn kind<K: Named>(rt: &impl Print) -> io::Result<()> {
     operations::<K>(rt)?;
     points::<K>(rt)?;
-    for n in 0..=MOST_SEATS + 1 {
+    for n in 0..=TOO_MANY_SEATS {
         weights::<K>(rt, n)?;
     }
     shares::<K>(rt, 4, &[5])?;
