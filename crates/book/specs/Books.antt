@@ -1,5 +1,5 @@
 -- A book's pages, set or unset: what each call answers, writes and leaves. Assumes nothing.
-use Rattle.std.specs.Prelude.{◌≡◌, ℕ, ◌≤◌, List, Some, None, Ok, Err, Result}
+use Rattle.std.specs.Prelude.{◌≡◌, ℕ, ◌≤◌, cond, nat_eq, List, [], length, Some, None, Ok, Err, Result}
 use Rattle.kinds.specs.Kind.{Ops}
 use Rattle.sharing.specs.Shares.{most_seats, weights_of}
 use Rattle.sharing.specs.declared.refusal.Refusal.{Refusal}
@@ -15,10 +15,10 @@ use Rattle.book.specs.declared.slate.Slate.{Slate}
 abbrev pub seat_count : Pages → ℕ
 seat_count p = elim p.slate [ Some s ↦ s.n | None ↦ 0 ]
 
--- a book keeps the weights of its seats, which are at most nine
+-- a book has at most nine seats; it keeps their weights once they are worked out, and none before
 pub record KeepsWeights (o : Ops) (p : Pages) (weights : List ℕ) : Type 0 where
   pub few : seat_count p ≤ most_seats
-  pub those : weights ≡ weights_of o (seat_count p)
+  pub those : weights ≡ cond (nat_eq (length weights) 0) [] (weights_of o (seat_count p))
 
 -- the pages of a new book
 abbrev pub blank : Pages

@@ -15,7 +15,7 @@ mod calls;
 pub struct Book<K: Kind> {
     kind: PhantomData<K>,
     pages: Pages,
-    // the weights of seats 1 to n, for open and gather
+    // the weights of seats 1 to n, once an open or a gather has worked them out; none before
     weights: ArrayVec<Code, MOST_SEATS>,
 }
 

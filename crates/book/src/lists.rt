@@ -1,5 +1,5 @@
 // The lists that calls write, and what is weighed of them.
-ghost use Rattle.std.specs.Prelude.{◌≡◌, ◌≤◌, true, false, MatchOption, length, map};
+ghost use Rattle.std.specs.Prelude.{◌≡◌, ◌≤◌, cond, nat_eq, [], true, false, MatchOption, length, map};
 ghost use Rattle.sharing.specs.Shares.{most_seats, seats_to, weights_of, weighed};
 ghost use Rattle.book.specs.Secrets.{share_held, letter_held, opened, entry_if, shown};
 ghost use Rattle.book.specs.Slates.{show_count, flag, holds_share};
@@ -22,6 +22,18 @@ pub(crate) fn weights_for<K: Kind>(n: u32) -> ArrayVec<Code, MOST_SEATS>
     // it refuses only a list of more than nine
     let _ = sharing::weigh::<K>(weights.as_mut_slice());
     weights
+}
+
+// The weights of seats 1 to n are worked out where they are not there yet, and kept: by the first open or gather, so that a
+// book that needs none pays for none. The list is what the book keeps.
+pub(crate) fn weigh_once<K: Kind>(weights: &mut ArrayVec<Code, MOST_SEATS>, n: u32)
+    requires few { n ≤ most_seats }
+    requires kept { weights.old.items ≡ cond (nat_eq (length weights.old.items) 0) [] (weights_of K.Kind.ops n) }
+    ensures { weights.new.items ≡ weights_of K.Kind.ops n }
+{
+    if weights.is_empty() {
+        *weights = weights_for::<K>(n);
+    }
 }
 
 // The two entries for a code: 1 and the code, or 0 and 0 where there is none.

@@ -8,7 +8,7 @@ ghost use Rattle.book.specs.Secrets.{opened, shown};
 
 use super::Book;
 use crate::deciding::may_set;
-use crate::lists::weights_for;
+use crate::lists::weigh_once;
 use crate::{Hand, Line, Pages, Secrets, Slate, rows};
 use arrayvec::ArrayVec;
 use kinds::{Code, Kind};
@@ -48,7 +48,7 @@ impl<K: Kind> Book<K> {
             return Err(Refusal::AlreadySet);
         }
         may_set(n, k)?;
-        self.weights = weights_for::<K>(n);
+        self.weights = ArrayVec::new();
         self.pages = Pages {
             slate: Some(Slate::fresh(n, k)),
             secrets: Secrets::empty(),
@@ -154,6 +154,7 @@ impl<K: Kind> Book<K> {
         let Pages { slate, secrets } = &mut self.pages;
         let slate = slate.as_mut().ok_or(Refusal::Unset)?;
         let hand = slate.may_gather(seat)?;
+        weigh_once::<K>(&mut self.weights, slate.n);
         let share = secrets.gathered_share::<K>(&self.weights, seat);
         secrets.set_share(hand.destination, seat, share);
         if slate.gather(hand.destination, seat) {
@@ -172,6 +173,7 @@ impl<K: Kind> Book<K> {
         let slate = self.pages.slate.as_ref().ok_or(Refusal::Unset)?;
         slate.may_open(line, list.len())?;
         self.pages.secrets.open_line(line, list);
+        weigh_once::<K>(&mut self.weights, slate.n);
         Ok(sharing::recombine::<K>(self.weights.as_slice(), list))
     }
 
